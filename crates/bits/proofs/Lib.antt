@@ -1,0 +1,4 @@
+pub mod Tests
+pub mod Belows
+pub mod Counts
+pub mod Words

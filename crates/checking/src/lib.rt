@@ -1,0 +1,3 @@
+// Whether a set is consistent, and if not, which option fails on which item.
+pub mod call;
+mod conditions;

@@ -1,0 +1,6 @@
+pub mod Sets
+pub mod Levels
+pub mod Counts
+pub mod Tests
+pub mod Closed
+pub mod Theory

@@ -1,0 +1,5 @@
+pub mod Starts
+pub mod Equal
+pub mod BlankLaws
+pub mod GridContents
+pub mod GridLaws

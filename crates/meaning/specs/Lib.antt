@@ -1,0 +1,5 @@
+pub mod Refusals
+pub mod Meaning
+pub mod Blank
+pub mod Pairs
+pub mod Grid

@@ -1,0 +1,9 @@
+-- Two items i < j have the pair number start j + i: 0, 1, 2, .. in the order (0,1), (0,2), (1,2), (0,3), ..
+-- start j: the first pair number of item j, which is how many pairs there are below item j
+use Prim.Native.Nat.{ℕ, _+_, _-_, _*_, _/_}
+
+unfoldable pub start : ℕ → ℕ
+start j = j * (j - 1) / 2
+
+abbrev pub pair : ℕ → ℕ → ℕ
+pair i j = start j + i

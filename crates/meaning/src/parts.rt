@@ -1,0 +1,9 @@
+// The parts of a grid book, as someone hands them over; any values, checked or not.
+#[derive(Clone, Copy)]
+pub struct GridParts<'a> {
+    pub edition: u32,
+    pub items: usize,
+    pub counts: &'a [u8],
+    pub links: &'a [u32],
+    pub rows: &'a [u32],
+}
