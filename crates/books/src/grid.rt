@@ -6,10 +6,11 @@ ghost use lib.ListN.{getD, length};
 ghost use Rattle.meaning.specs.Blank.{blank};
 ghost use Rattle.meaning.specs.Grid.{contents-right, gridBook, gridCheck, gridMeaning, rows-for};
 ghost use Rattle.meaning.proofs.GridLaws.{grid-lawful};
-use crate::grid_check::counts_hold;
 use crate::grid_check::links_hold;
 use crate::grid_check::row_word;
 use crate::grid_check::rows_hold;
+use crate::limits::counts_hold;
+use crate::limits::limits_hold;
 use crate::rule::RuleBook;
 use bits::bit::has_bit;
 use meaning::parts::GridParts;
@@ -31,7 +32,7 @@ impl<'a> GridBook<'a> {
         ensures { λ r. ⌜ r ≡ gridCheck (parts .entry) ⌝ }
     {
         let n = parts.items;
-        if n < 1 || n > 32 || parts.edition < 1 || parts.edition > 9999 {
+        if !limits_hold(parts.edition, n) {
             return Err(Refusal::OutOfLimits { line: 0 });
         }
         if parts.counts.len() < n
@@ -40,7 +41,7 @@ impl<'a> GridBook<'a> {
         {
             return Err(Refusal::MemoryShort);
         }
-        if counts_hold(parts) && links_hold(parts) && rows_hold(parts) {
+        if counts_hold(n, parts.counts) && links_hold(parts) && rows_hold(parts) {
             Ok(())
         } else {
             Err(Refusal::OutOfLimits { line: 0 })

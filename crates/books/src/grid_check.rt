@@ -1,10 +1,11 @@
 // The check of a grid book's parts, one condition a function. An inner file: what reads the parts asks for their sizes.
 ghost use mathlib.Core.Path.{_≡_};
 ghost use mathlib.Core.Bool.{true};
-ghost use Prim.Native.Nat.{_<_, _≤_};
+ghost use Prim.Native.Nat.{_<_};
 ghost use lib.ListN.{getD};
 ghost use Rattle.bits.specs.Below.{every};
-ghost use Rattle.meaning.specs.Grid.{Sized, counts-right, link-bit, link-right, links-right, place, row-right, rows-right, same};
+ghost use Rattle.meaning.specs.Grid.{Sized, link-bit, link-right, links-right, place, row-right, rows-right, same};
+ghost use Rattle.meaning.specs.Limits.{counts-right};
 use crate::pair::pair_number;
 use bits::bit::has_bit;
 use meaning::parts::GridParts;
@@ -18,20 +19,6 @@ pub fn row_word(parts: GridParts<'_>, i: usize, a: usize, j: usize) -> u32
     ensures { λ r. ⌜ r ≡ getD (now (parts .entry .rows)) (place i a j) 0 ⌝ }
 {
     parts.rows[32 * pair_number(i, j) + a]
-}
-
-// Each count lies within 1 to 32.
-pub fn counts_hold(parts: GridParts<'_>) -> bool
-    requires { ⌜ Sized parts ⌝ }
-    ensures { λ r. ⌜ r ≡ counts-right (parts .entry .items) (now (parts .entry .counts)) ⌝ }
-{
-    for i in 0..parts.items {
-        let count = parts.counts[i];
-        if count < 1 || count > 32 {
-            return false;
-        }
-    }
-    true
 }
 
 // What item i says of each other item, that one says of i.

@@ -1,6 +1,6 @@
 // The numbering of pairs of items; an inner file, whose functions ask that the items are there.
 ghost use mathlib.Core.Path.{_≡_};
-ghost use Prim.Native.Nat.{_<_};
+ghost use Prim.Native.Nat.{_<_, _≤_};
 ghost use Rattle.meaning.specs.Pairs.{pair, start};
 
 const STARTS: [usize; 32] = [
@@ -41,7 +41,8 @@ const STARTS: [usize; 32] = [
 // The first pair number of item j.
 fn start_of(j: usize) -> usize
     requires { ⌜ j < 32 ⌝ }
-    ensures { λ r. ⌜ r ≡ start j ⌝ }
+    ensures value { λ r. ⌜ r ≡ start j ⌝ }
+    ensures bound { λ r. ⌜ r ≤ 465 ⌝ }
 {
     STARTS[j]
 }

@@ -2,7 +2,7 @@
 use mathlib.Core.Path.{refl}
 use native.Mathlib.Omega.{arith}
 use Rattle.std.proofs.shelf.Ways.{tells}
-use Rattle.meaning.specs.Meaning.{Meaning, Lawful}
+use Rattle.meaning.specs.Meaning.{Lawful}
 use Rattle.meaning.specs.Blank.{blank}
 
 pub blank-lawful : Lawful blank

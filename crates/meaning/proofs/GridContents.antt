@@ -1,20 +1,19 @@
--- What the contents that the check accepts say at each item, link and row.
+-- What the contents that the check accepts say of counts and links.
 use mathlib.Core.Path.{_≡_, refl, sym, subst}
 use mathlib.Core.Bool.{Bool, true, false, not, _&&_}
 use mathlib.Core.List.{List, [], _∷_}
-use mathlib.Core.Logic.{_≢_, inl, inr}
-use Prim.Native.Nat.{ℕ, _≤_, _<_, _^_}
+use mathlib.Core.Logic.{_≢_}
+use Prim.Native.Nat.{ℕ, _<_, _^_}
 use native.Mathlib.Omega.{arith}
 use lib.Dec.{ltb}
 use lib.ListN.{getD}
-use Rattle.std.proofs.shelf.Tests.{and-parts, cases-lt, lt-ltb, le-ltb}
+use Rattle.std.proofs.shelf.Tests.{and-parts}
 use Rattle.std.proofs.shelf.Ways.{tells}
 use Rattle.bits.specs.Below.{every}
 use Rattle.bits.proofs.Belows.{every-at}
-use Rattle.meaning.specs.Grid.{counts-right, count-right, links-right, link-right, link-bit, same, contents-right, rows-right, options-in}
-
-pub counts-at : (n : ℕ) (counts : List ℕ) → counts-right n counts ≡ true → (i : ℕ) → i < n → (1 ≤ getD counts i 0) × (getD counts i 0 ≤ 32)
-counts-at n counts e i h = let t = every-at n (count-right counts) e i h in (grind (arith, tells), grind (arith, tells))
+use Rattle.meaning.specs.Grid.{links-right, link-right, link-bit, same, contents-right, rows-right}
+use Rattle.meaning.specs.Limits.{counts-right}
+use Rattle.meaning.specs.declared.parts.GridParts.{GridParts}
 
 same-eq : (x y : Bool) → same x y ≡ true → x ≡ y
 same-eq true true e = refl
@@ -22,7 +21,19 @@ same-eq true false e = sym e
 same-eq false true e = e
 same-eq false false e = refl
 
-module _ (n : ℕ) (counts links rows : List ℕ) (ok : contents-right n counts links rows ≡ true) where
+module _ (p : GridParts) (ok : contents-right (p .items) (p .counts .now) (p .links .now) (p .rows .now) ≡ true) where
+  abbrev n : ℕ
+  n = p .items
+
+  abbrev counts : List ℕ
+  counts = p .counts .now
+
+  abbrev links : List ℕ
+  links = p .links .now
+
+  abbrev rows : List ℕ
+  rows = p .rows .now
+
   pub counts-hold : counts-right n counts ≡ true
   counts-hold = and-parts (counts-right n counts) (links-right n links && rows-right n counts links rows) ok .0
 
@@ -31,28 +42,6 @@ module _ (n : ℕ) (counts links rows : List ℕ) (ok : contents-right n counts 
 
   link-at : (i : ℕ) → i < n → link-right n links i ≡ true
   link-at i h = every-at n (link-right n links) links-hold i h
-
-  pub options-least : (i : ℕ) → i < n → 1 ≤ options-in n counts i
-  options-least i h = let c = counts-at n counts counts-hold i h in let t = lt-ltb i n h in grind (arith, tells)
-
-  pub options-most : (i : ℕ) → options-in n counts i ≤ 32
-  options-most i =
-      elim (cases-lt i n) [
-        | inl more ↦ let c = counts-at n counts counts-hold i more in let t = lt-ltb i n more in grind (arith, tells)
-        | inr less ↦ let t = le-ltb i n less in grind (arith, tells)
-      ]
-
-  -- an option that is there is one of 32
-  pub option-small : (i a : ℕ) → a < options-in n counts i → a < 32
-  option-small i a h = let t = options-most i in omega arith
-
-  -- and belongs to an item that is there
-  pub item-there : (i a : ℕ) → a < options-in n counts i → i < n
-  item-there i a h =
-      elim (cases-lt i n) [
-        | inl more ↦ more
-        | inr less ↦ let t = le-ltb i n less in absurd (grind (arith, tells))
-      ]
 
   pub no-own-link : (i : ℕ) → i < n → link-bit links i i ≡ false
   no-own-link i h = let t = link-at i h in grind (arith, tells)

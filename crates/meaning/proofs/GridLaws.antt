@@ -1,27 +1,26 @@
 -- A grid book of checked parts keeps the laws, and the blank book's parts mean the blank book.
-use mathlib.Core.Path.{_≡_, refl, sym, ap, subst, _∙_, fun-ext}
-use mathlib.Core.Bool.{Bool, true, false, cond, not, _&&_, _||_}
-use mathlib.Core.List.{List, [], _∷_}
+use mathlib.Core.Path.{_≡_, ap, subst}
+use mathlib.Core.Bool.{true, false, cond, _&&_}
+use mathlib.Core.List.{List}
 use mathlib.Core.Logic.{inl, inr}
-use Prim.Native.Nat.{ℕ, zero, suc, _≤_, _<_, _/_, _^_}
-use native.Mathlib.Nat.{zero-div}
+use Prim.Native.Nat.{ℕ, zero, suc, _≤_, _<_}
 use native.Mathlib.Omega.{arith}
-use lib.Dec.{eqb, ltb}
-use lib.ListN.{getD, length}
+use lib.Dec.{ltb}
+use lib.ListN.{getD}
 use Rattle.std.proofs.shelf.Tests.{cases-lt, cases-order, lt-ltb, le-ltb}
 use Rattle.std.proofs.shelf.Ways.{tells}
-use Rattle.bits.specs.Below.{every}
-use Rattle.bits.specs.Bits.{bit}
 use Rattle.meaning.specs.Blank.{blank}
-use Rattle.meaning.specs.Meaning.{Meaning, Lawful}
-use Rattle.meaning.specs.Grid.{gridBook, gridCheck, gridMeaning, contents-right, options-in, link-bit}
+use Rattle.meaning.specs.Meaning.{Lawful}
+use Rattle.meaning.specs.Grid.{gridBook, gridCheck, gridMeaning, contents-right, link-bit}
+use Rattle.meaning.specs.Limits.{options-in}
 use Rattle.meaning.specs.declared.parts.GridParts.{GridParts}
 use Rattle.meaning.specs.declared.refusal.Refusal.{Refusal}
 use Rattle.std.specs.declared.result.Result.{Result}
 use Rattle.std.specs.declared.result.Result.the-variants.{Err}
 use Rattle.std.specs.Results.{isOk}
 use Rattle.meaning.proofs.Equal.{meaning-equal}
-use Rattle.meaning.proofs.GridContents.{options-least, options-most, item-there, no-own-link, links-mutual}
+use Rattle.meaning.proofs.GridContents.{counts-hold, no-own-link, links-mutual}
+use Rattle.meaning.proofs.OptionCounts.{options-least, options-most, item-there}
 
 module _ (p : GridParts) (few : (1 ≤ p .items) × (p .items ≤ 32)) (ok : contents-right (p .items) (p .counts .now) (p .links .now) (p .rows .now) ≡ true) where
   abbrev n : ℕ
@@ -33,13 +32,10 @@ module _ (p : GridParts) (few : (1 ≤ p .items) × (p .items ≤ 32)) (ok : con
   abbrev links : List ℕ
   links = p .links .now
 
-  abbrev rows : List ℕ
-  rows = p .rows .now
-
   self-no : (i : ℕ) → ((ltb i n && ltb i n) && link-bit links i i) ≡ false
   self-no i =
       elim (cases-lt i n) [
-        | inl more ↦ let t = no-own-link n counts links rows ok i more in grind (arith, tells)
+        | inl more ↦ let t = no-own-link p ok i more in grind (arith, tells)
         | inr less ↦ let t = le-ltb i n less in grind (arith, tells)
       ]
 
@@ -47,14 +43,11 @@ module _ (p : GridParts) (few : (1 ≤ p .items) × (p .items ≤ 32)) (ok : con
   link-both i j =
       elim (cases-lt i n) [
         | inl more ↦ elim (cases-lt j n) [
-          | inl more′ ↦ let t = links-mutual n counts links rows ok i j more more′ in grind (arith, tells)
+          | inl more′ ↦ let t = links-mutual p ok i j more more′ in grind (arith, tells)
           | inr less′ ↦ let t = le-ltb j n less′ in grind (arith, tells)
         ]
         | inr less ↦ let t = le-ltb i n less in grind (arith, tells)
       ]
-
-  inside : (i a : ℕ) → a < options-in n counts i → i < n
-  inside i a h = item-there n counts links rows ok i a h
 
   -- an answer about existing options is the same read the other way
   together-both : (i a j b : ℕ) → gridMeaning p .together i a j b ≡ gridMeaning p .together j b i a
@@ -62,9 +55,9 @@ module _ (p : GridParts) (few : (1 ≤ p .items) × (p .items ≤ 32)) (ok : con
       elim (cases-lt a (options-in n counts i)) [
         | inl x ↦ elim (cases-lt b (options-in n counts j)) [
           | inl y ↦
-              let t = links-mutual n counts links rows ok i j (inside i a x) (inside j b y) in
+              let t = links-mutual p ok i j (item-there n counts i a x) (item-there n counts j b y) in
               elim (cases-order i j) [
-                | inl same′ ↦ let s : link-bit links i j ≡ false = subst (λ (k : ℕ). link-bit links i k ≡ false) same′ (no-own-link n counts links rows ok i (inside i a x)) in grind (arith, tells)
+                | inl same′ ↦ let s : link-bit links i j ≡ false = subst (λ (k : ℕ). link-bit links i k ≡ false) same′ (no-own-link p ok i (item-there n counts i a x)) in grind (arith, tells)
                 | inr other ↦ elim other [ inl up ↦ grind (arith, tells) | inr down ↦ grind (arith, tells) ]
               ]
           | inr y ↦ let t = le-ltb b (options-in n counts j) y in grind (arith, tells)
@@ -74,8 +67,8 @@ module _ (p : GridParts) (few : (1 ≤ p .items) × (p .items ≤ 32)) (ok : con
 
   together-free : (i a j b : ℕ) → gridMeaning p .linked i j ≡ false → a < options-in n counts i → b < options-in n counts j → gridMeaning p .together i a j b ≡ true
   together-free i a j b t x y =
-      let k = lt-ltb i n (inside i a x) in
-      let l = lt-ltb j n (inside j b y) in
+      let k = lt-ltb i n (item-there n counts i a x) in
+      let l = lt-ltb j n (item-there n counts j b y) in
       let u = lt-ltb a (options-in n counts i) x in
       let v = lt-ltb b (options-in n counts j) y in
       grind (arith, tells)
@@ -84,8 +77,8 @@ module _ (p : GridParts) (few : (1 ≤ p .items) × (p .items ≤ 32)) (ok : con
   grid-lawful = record {
     items-least = few .0;
     items-most = few .1;
-    options-least = options-least n counts links rows ok;
-    options-most = options-most n counts links rows ok;
+    options-least = options-least n counts (counts-hold p ok);
+    options-most = options-most n counts (counts-hold p ok);
     options-missing = λ i k. let t = le-ltb i n k in grind (arith, tells);
     linked-missing = λ i j k. let t = le-ltb i n k in grind (arith, tells);
     linked-self = self-no;

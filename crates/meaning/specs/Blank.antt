@@ -1,7 +1,6 @@
 -- The blank book is what a book made of refused parts means.
 -- blank: edition 0, one item with one option, no links
-use mathlib.Core.Bool.{Bool, false, cond, _&&_}
-use Prim.Native.Nat.{ℕ}
+use mathlib.Core.Bool.{false, cond, _&&_}
 use lib.Dec.{eqb}
 use Rattle.meaning.specs.Meaning.{Meaning}
 

@@ -1,7 +1,8 @@
 -- What the parts of a grid book mean, and which parts its check refuses.
 -- place i a j: where the row word of option a of i against item j stands, for i < j
 -- link-bit, row-bit: what a link word and a row word say
--- ..-right: a count, a link word, a row word has nothing that the check forbids
+-- ..-right: a link word, a row word has nothing that the check forbids
+-- gridOf: the meaning that an edition, a number of items, counts, link words and row words give
 -- gridMeaning: what checked parts mean; gridCheck: the check's answer; gridBook: the book made of any parts
 use mathlib.Core.Bool.{Bool, true, false, cond, not, _&&_, _||_}
 use mathlib.Core.List.{List}
@@ -11,6 +12,7 @@ use lib.ListN.{length, getD}
 use Rattle.bits.specs.Below.{every}
 use Rattle.bits.specs.Bits.{bit}
 use Rattle.meaning.specs.Blank.{blank}
+use Rattle.meaning.specs.Limits.{counts-right, limits-right, options-in}
 use Rattle.meaning.specs.Meaning.{Meaning}
 use Rattle.meaning.specs.Pairs.{pair}
 use Rattle.meaning.specs.declared.parts.GridParts.{GridParts}
@@ -19,10 +21,6 @@ use Rattle.meaning.specs.declared.refusal.Refusal.the-variants.{OutOfLimits, M
 use Rattle.std.specs.declared.result.Result.{Result}
 use Rattle.std.specs.declared.result.Result.the-variants.{Ok, Err}
 use Rattle.std.specs.Results.{isOk}
-
--- the number x lies within 1 to most
-abbrev pub within : ℕ → ℕ → Bool
-within x most = leb 1 x && leb x most
 
 abbrev pub place : ℕ → ℕ → ℕ → ℕ
 place i a j = 32 * pair i j + a
@@ -44,9 +42,6 @@ link-bit links i j = bit (getD links i 0) j
 abbrev pub row-bit : List ℕ → ℕ → ℕ → ℕ → ℕ → Bool
 row-bit rows i a j b = bit (getD rows (place i a j) 0) b
 
-abbrev pub count-right : List ℕ → ℕ → Bool
-count-right counts i = within (getD counts i 0) 32
-
 abbrev pub same : Bool → Bool → Bool
 same true b = b
 same false b = not b
@@ -60,9 +55,6 @@ abbrev pub row-right : List ℕ → List ℕ → List ℕ → ℕ → ℕ → �
 row-right counts links rows j i a =
     cond (link-bit links i j && ltb a (getD counts i 0)) (ltb (getD rows (place i a j) 0) (2 ^ getD counts j 0)) (eqb (getD rows (place i a j) 0) 0)
 
-abbrev pub counts-right : ℕ → List ℕ → Bool
-counts-right n counts = every n (count-right counts)
-
 abbrev pub links-right : ℕ → List ℕ → Bool
 links-right n links = every n (link-right n links)
 
@@ -71,9 +63,6 @@ rows-right n counts links rows = every n (λ j. every j (λ i. every 32 (row-rig
 
 abbrev pub contents-right : ℕ → List ℕ → List ℕ → List ℕ → Bool
 contents-right n counts links rows = counts-right n counts && (links-right n links && rows-right n counts links rows)
-
-abbrev pub limits-right : ℕ → ℕ → Bool
-limits-right edition n = within n 32 && within edition 9999
 
 abbrev pub sizes-right : ℕ → List ℕ → List ℕ → List ℕ → Bool
 sizes-right n counts links rows = (leb n (length counts) && leb n (length links)) && leb (rows-for n) (length rows)
@@ -87,18 +76,18 @@ gridCheck p =
     (Err MemoryShort))
     (Err (OutOfLimits 0))
 
-abbrev pub options-in : ℕ → List ℕ → ℕ → ℕ
-options-in n counts i = cond (ltb i n) (getD counts i 0) 0
+abbrev pub gridOf : ℕ → ℕ → List ℕ → List ℕ → List ℕ → Meaning
+gridOf edition n counts links rows = record {
+  edition = edition;
+  items = n;
+  options = options-in n counts;
+  linked = λ i j. (ltb i n && ltb j n) && link-bit links i j;
+  together = λ i a j b. (ltb a (options-in n counts i) && ltb b (options-in n counts j))
+      && (not (link-bit links i j) || cond (ltb i j) (row-bit rows i a j b) (row-bit rows j b i a));
+}
 
 abbrev pub gridMeaning : GridParts → Meaning
-gridMeaning p = record {
-  edition = p .edition;
-  items = p .items;
-  options = options-in (p .items) (p .counts .now);
-  linked = λ i j. (ltb i (p .items) && ltb j (p .items)) && link-bit (p .links .now) i j;
-  together = λ i a j b. (ltb a (options-in (p .items) (p .counts .now) i) && ltb b (options-in (p .items) (p .counts .now) j))
-      && (not (link-bit (p .links .now) i j) || cond (ltb i j) (row-bit (p .rows .now) i a j b) (row-bit (p .rows .now) j b i a));
-}
+gridMeaning p = gridOf (p .edition) (p .items) (p .counts .now) (p .links .now) (p .rows .now)
 
 abbrev pub gridBook : GridParts → Meaning
 gridBook p = cond (isOk (gridCheck p)) (gridMeaning p) blank

@@ -7,3 +7,13 @@ pub struct GridParts<'a> {
     pub links: &'a [u32],
     pub rows: &'a [u32],
 }
+
+// The parts of a clearance book, likewise; starts and gaps in seconds.
+#[derive(Clone, Copy)]
+pub struct ClearanceParts<'a> {
+    pub edition: u32,
+    pub items: usize,
+    pub counts: &'a [u8],
+    pub starts: &'a [u16],
+    pub gaps: &'a [u16],
+}

@@ -3,7 +3,7 @@ use Prim.Native.Nat.{_<_}
 use lib.ListN.{getD}
 use borrow.Author.Needs.{needs}
 use Rattle.std.proofs.shelf.Bits.{one-shl}
-use Rattle.meaning.proofs.GridContents.{counts-at}
+use Rattle.meaning.proofs.OptionCounts.{counts-at}
 use Rattle.books.proofs.grid_check.row_holds.Needs as need
 
 pub shl-result : need.shl-result

@@ -1,4 +1,3 @@
-use mathlib.Core.Path.{refl}
 use borrow.Author.Needs.{needs}
 use Rattle.meaning.proofs.GridContents.{blank-right}
 use Rattle.meaning.proofs.GridLaws.{blank-grid}

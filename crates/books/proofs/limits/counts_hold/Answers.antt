@@ -1,8 +1,8 @@
 use mathlib.Core.Path.{sym}
 use borrow.Author.Needs.{needs}
 use Rattle.bits.proofs.Belows.{every-none, every-more, every-fails}
-use Rattle.meaning.specs.Grid.{count-right}
-use Rattle.books.proofs.grid_check.counts_hold.Needs as need
+use Rattle.meaning.specs.Limits.{count-right}
+use Rattle.books.proofs.limits.counts_hold.Needs as need
 
 pub loop-i-holds : need.loop-i-holds
 loop-i-holds c = search (needs, every-none)
@@ -12,4 +12,4 @@ loop-i-again c = search (needs, every-more)
 
 pub returns-then-count-lt1 : need.returns-then-count-lt1
 returns-then-count-lt1 c =
-    sym (every-fails (c .args .parts .items) (count-right (c .args .parts .counts .now)) (c .loop-i .i) (search needs) (search needs))
+    sym (every-fails (c .args .items) (count-right (c .args .counts .now)) (c .loop-i .i) (search needs) (search needs))
