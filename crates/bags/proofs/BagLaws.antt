@@ -1,6 +1,6 @@
 -- Laws of bags: one element more, the empty bag, and facts that hold of each element.
 use mathlib.Core.Path.{_≡_, refl, sym, ap, _∙_, fun-ext}
-use mathlib.Core.Bool.{Bool, cond}
+use mathlib.Core.Bool.{Bool, true, cond}
 use mathlib.Core.List.{List, [], _∷_, _++_, Perm·swap, perm-append-singleton}
 use mathlib.Core.Quot.{Quot·sound, Quot-set, ind}
 use Prim.Native.Nat.{_+_}
@@ -46,3 +46,7 @@ each-one P x b e = e x b refl
 
 pub each-rest : {T : Type 0} (P : T → Type 0) (x : T) (b : Bag T) → Each P (add x b) → Each P b
 each-rest P x b e y others is = e y (add x others) (ap (add x) is ∙ add-swap x y others)
+
+-- what a call of `put` leaves where there is room
+pub put-one : {T : Type 0} (after before : Bag T) (x : T) (free : Bool) → after ≡ cond free (add x before) before → free ≡ true → after ≡ add x before
+put-one {T} after before x free e is = e ∙ ap (λ (b : Bool). cond {A = Bag T} b (add x before) before) is

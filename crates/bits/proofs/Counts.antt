@@ -30,13 +30,21 @@ one-if-le : (b : Bool) → one-if b ≤ 1
 one-if-le true = le-refl 1
 one-if-le false = omega arith
 
-one-if-yes : (b : Bool) → T b → one-if b ≡ 1
+pub one-if-yes : (b : Bool) → T b → one-if b ≡ 1
 one-if-yes true t = refl
 one-if-yes false t = absurd t
 
-one-if-no : (b : Bool) → (T b → ⊥) → one-if b ≡ 0
+pub one-if-no : (b : Bool) → (T b → ⊥) → one-if b ≡ 0
 one-if-no true h = absurd (h tt)
 one-if-no false h = refl
+
+pub one-if-back : (b : Bool) → 1 ≤ one-if b → T b
+one-if-back true h = tt
+one-if-back false h = absurd (not-suc-le-zero h)
+
+pub one-if-none : (b : Bool) → one-if b ≡ 0 → T b → ⊥
+one-if-none true h t = absurd (omega arith)
+one-if-none false h t = t
 
 pub count-le : (n : ℕ) (f : ℕ → Bool) → count n f ≤ n
 unfolding count
@@ -155,3 +163,22 @@ count-up k (suc n) f h =
 pub count-below-none : (f : ℕ → Bool) → count 0 f ≡ 0
 unfolding count
 count-below-none f = refl
+
+-- the lowest number apart
+pub count-low : (n : ℕ) (f : ℕ → Bool) → count (suc n) f ≡ one-if (f 0) + count n (λ k. f (suc k))
+unfolding count
+count-low zero f = refl
+count-low (suc n) f = let q : count (suc n) f ≡ one-if (f 0) + count n (λ k. f (suc k)) = count-low n f in omega arith
+
+-- where none passes from k on, the higher bound counts no more
+pub count-cut : (k n : ℕ) (f : ℕ → Bool) → k ≤ n → ((x : ℕ) → k ≤ x → f x ≡ false) → count n f ≡ count k f
+unfolding count
+count-cut k zero f h none = let e : k ≡ 0 = omega arith in rw e refl
+count-cut k (suc n) f h none =
+    elim (ℕ-discrete k (suc n)) [
+      | yes e ↦ rw e refl
+      | no ne ↦
+          (let z : one-if (f n) ≡ 0 = ap one-if (none n (omega arith)) in
+          let q : count n f ≡ count k f = count-cut k n f (omega arith) none in
+          omega arith)
+    ]

@@ -2,3 +2,4 @@ pub mod Tests
 pub mod Belows
 pub mod Counts
 pub mod Words
+pub mod Ones

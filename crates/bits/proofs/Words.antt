@@ -90,10 +90,11 @@ bit-high w n k h l = ap (λ (z : ℕ). eqb (z % 2) 1) (div-eq-of-lt (lt-of-lt-of
 pub bit-none : (k : ℕ) → bit 0 k ≡ false
 bit-none k = ap (λ (z : ℕ). eqb (z % 2) 1) (zero-div (2 ^ k))
 
-bit-up : (x k : ℕ) → T (bit (x / 2) k) → T (bit x (suc k))
-bit-up x k t =
-    let e : x / 2 ^ suc k ≡ x / 2 / 2 ^ k = ap (λ (z : ℕ). x / z) (pow-suc 2 k ∙ mul-comm (2 ^ k) 2) ∙ sym (div-div-eq-div-mul x 2 (2 ^ k)) in
-    subst (λ (z : ℕ). T (eqb (z % 2) 1)) (sym e) t
+pub bit-up : (x k : ℕ) → bit x (suc k) ≡ bit (x / 2) k
+bit-up x k = ap (λ (z : ℕ). eqb (z % 2) 1) (ap (λ (z : ℕ). x / z) (pow-suc 2 k ∙ mul-comm (2 ^ k) 2) ∙ sym (div-div-eq-div-mul x 2 (2 ^ k)))
+
+bit-rise : (x k : ℕ) → T (bit (x / 2) k) → T (bit x (suc k))
+bit-rise x k t = subst T (sym (bit-up x k)) t
 
 some-bit-below : (n x : ℕ) → x < n → x ≢ 0 → (k : ℕ) × T (bit x k)
 some-bit-below zero x lt ne = absurd (not-suc-le-zero lt)
@@ -103,7 +104,7 @@ some-bit-below (suc n) x lt ne =
       | no o ↦
           (let half : x / 2 ≢ 0 = omega arith in
           let r = some-bit-below n (x / 2) (omega arith) half in
-          (suc (r .0), bit-up x (r .0) (r .1)))
+          (suc (r .0), bit-rise x (r .0) (r .1)))
     ]
   where
     one-down : (x : ℕ) → x / 2 ^ 0 ≡ x

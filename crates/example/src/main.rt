@@ -1,4 +1,5 @@
-// A junction designer's first questions: is what a script left of the options consistent, and do two books agree?
+// A junction designer's day: is what a script left consistent, do two books agree, and what does screening leave?
+mod designer;
 mod junction;
 mod signals;
 mod verdicts;
@@ -8,8 +9,10 @@ use books::grid::GridBook;
 use books::grid::GridRules;
 use books::joint::JointBook;
 use books::joint::JointRules;
+use designer::show_calls;
 use junction::Junction;
 use meaning::refusal::RefusalDisplay;
+use runs::call::Call;
 use signals::Signals;
 use signals::show_forbidden;
 use signals::show_pairs;
@@ -78,8 +81,45 @@ fn join_misfits(rt: &impl Print) -> io::Result<()> {
     }
 }
 
+// A designer's session on the junction, and one on the joint book.
+fn design(rt: &LibcRuntime) -> io::Result<()> {
+    let junction = Junction::sample();
+    let book = GridBook::new(junction.parts());
+    println!(rt, "A designer's session on the junction:")?;
+    let calls = [
+        Call::Screen { level: 0 },
+        Call::Screen { level: 1 },
+        Call::Screen { level: 2 },
+    ];
+    show_calls(rt, book, &calls)?;
+    println!(rt, "The short pocket is chosen all the same:")?;
+    let calls = [
+        Call::Screen { level: 2 },
+        Call::Choose { item: 0, option: 0 },
+        Call::Screen { level: 2 },
+        Call::Restore { item: 0, option: 1 },
+        Call::Strike { item: 0, option: 0 },
+        Call::Strike { item: 0, option: 0 },
+        Call::Screen { level: 2 },
+        Call::Screen { level: 3 },
+    ];
+    show_calls(rt, book, &calls)?;
+
+    let signals = Signals::sample();
+    println!(rt, "A session on the joint book of the signals:")?;
+    let calls = [
+        Call::Screen { level: 2 },
+        Call::Strike { item: 0, option: 1 },
+        Call::Screen { level: 0 },
+        Call::Strike { item: 1, option: 1 },
+        Call::Screen { level: 0 },
+    ];
+    show_calls(rt, JointBook::new(signals.manual(), signals.site()), &calls)
+}
+
 fn main(rt: LibcRuntime) -> io::Result<()> {
     check_junction(&rt)?;
     join_signals(&rt)?;
-    join_misfits(&rt)
+    join_misfits(&rt)?;
+    design(&rt)
 }

@@ -1,12 +1,13 @@
 -- Crossing out options that fail, each at its turn, leaves the largest closed set if what is left is closed.
 -- without s i a: s with option a of item i crossed out; crossed: with a list of options crossed out
 -- Fails: each option of the list fails in what the earlier crossings leave; fails?: the same as a test for a partner count
-use mathlib.Core.Path.{subst₂}
-use mathlib.Core.Bool.{Bool, true, _&&_, not}
+use mathlib.Core.Path.{_≡_, refl, sym, _∙_, ap, subst₂}
+use mathlib.Core.Bool.{Bool, true, false, _&&_, not}
 use mathlib.Core.List.{List, [], _∷_}
+use mathlib.Core.Logic.{_≢_}
 use Prim.Native.Nat.{ℕ}
-use lib.Dec.{T, eqb, eqb→eq}
-use Rattle.bits.proofs.Tests.{and-l, and-r, and-i, not-e, not-i}
+use lib.Dec.{T, eqb, eqb→eq, eqb-refl}
+use Rattle.bits.proofs.Tests.{and-l, and-r, and-i, not-e, not-i, eqb-no}
 use Rattle.meaning.specs.Meaning.{Meaning}
 use Rattle.levels.specs.Sets.{Set, Inside}
 use Rattle.levels.specs.Levels.{Condition, Meets}
@@ -32,6 +33,20 @@ Fails C m s (x ∷ xs) = (Meets C m s (x .0) (x .1) → ⊥) × Fails C m (witho
 
 pub without-inside : (m : Meaning) (s : Set) (i a : ℕ) → Inside m (without s i a) s
 without-inside m s i a j b h = (h .0, h .1, and-l (s j b) (not (same? i a j b)) (h .2))
+
+pub same-e : (i a j b : ℕ) → T (same? i a j b) → (i ≡ j) × (a ≡ b)
+same-e i a j b t = (eqb→eq i j (and-l (eqb i j) (eqb a b) t), eqb→eq a b (and-r (eqb i j) (eqb a b) t))
+
+pub same-self : (i a : ℕ) → T (same? i a i a)
+same-self i a = and-i (eqb i i) (eqb a a) (eqb-refl i) (eqb-refl a)
+
+and-not-no : (x : Bool) → (x && not false) ≡ x
+and-not-no true = refl
+and-not-no false = refl
+
+-- the options of other items stay
+pub without-else : (s : Set) (i a j b : ℕ) → j ≢ i → without s i a j b ≡ s j b
+without-else s i a j b ne = ap (λ (z : Bool). s j b && not (z && eqb a b)) (eqb-no i j (λ e. ne (sym e))) ∙ and-not-no (s j b)
 
 pub crossed-inside : (m : Meaning) (s : Set) (xs : List (ℕ × ℕ)) → Inside m (crossed s xs) s
 crossed-inside m s [] i a h = h

@@ -16,7 +16,8 @@ use Rattle.levels.proofs.Crossing.{without, crossed, Fails, crossings-largest}
 use Rattle.levels.specs.Tests.{meets?, kept-meets?, closed?}
 use Rattle.levels.proofs.Decide.{meets-dec, closed-e}
 use Rattle.levels.proofs.Mono.{counts-monotone}
-use Rattle.levels.proofs.Sizes.{size, size-falls}
+use Rattle.levels.specs.Size.{size}
+use Rattle.levels.proofs.Sizes.{size-falls}
 
 module _ (c : ℕ) (m : Meaning) where
   pub closed-or-fails : (s : Set) → Closed (countOn c) m s ⊎ ((i : ℕ) × (a : ℕ) × Has m s i a × (Meets (countOn c) m s i a → ⊥))

@@ -6,3 +6,4 @@ pub mod Sizes
 pub mod Exists
 pub mod IsCount
 pub mod Theories
+pub mod Partners

@@ -4,3 +4,5 @@ pub mod Counts
 pub mod Tests
 pub mod Closed
 pub mod Theory
+pub mod Size
+pub mod Counted

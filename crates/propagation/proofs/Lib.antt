@@ -1,0 +1,10 @@
+pub mod Sets
+pub mod Marking
+pub mod Waiting
+pub mod Bytes
+pub mod Rows
+pub mod Testing
+pub mod Spreading
+pub mod Revising
+pub mod Counting
+pub mod Settling

@@ -1,0 +1,3 @@
+pub mod Supports
+pub mod Lists
+pub mod State
