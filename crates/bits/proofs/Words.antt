@@ -30,13 +30,13 @@ low_and p q hp hq =
       | inr e ↦ elim (zero_or_one q hq) [ inl f ↦ subst₂ P (sym e) (sym f) refl | inr f ↦ subst₂ P (sym e) (sym f) refl ]
     ]
 
-pub bit_or : (x y b : ℕ) → bit (bit_or x y) b ≡ (bit x b || bit y b)
-bit_or x y b =
+pub bit_of_or : (x y b : ℕ) → bit (bit_or x y) b ≡ (bit x b || bit y b)
+bit_of_or x y b =
     ap (λ (z : ℕ). eqb z 1) (ap (λ (z : ℕ). z % 2) (or_shr x y b) ∙ or_mod (x / 2 ^ b) (y / 2 ^ b) 1)
     ∙ low_or (x / 2 ^ b % 2) (y / 2 ^ b % 2) (omega arith) (omega arith)
 
-pub bit_and : (x y b : ℕ) → bit (bit_and x y) b ≡ (bit x b && bit y b)
-bit_and x y b =
+pub bit_of_and : (x y b : ℕ) → bit (bit_and x y) b ≡ (bit x b && bit y b)
+bit_of_and x y b =
     ap (λ (z : ℕ). eqb z 1) (ap (λ (z : ℕ). z % 2) (and_shr x y b) ∙ and_mod (x / 2 ^ b) (y / 2 ^ b) 1)
     ∙ low_and (x / 2 ^ b % 2) (y / 2 ^ b % 2) (omega arith) (omega arith)
 
@@ -68,8 +68,8 @@ low_xor p q hp hq =
       | inr e ↦ elim (zero_or_one q hq) [ inl f ↦ subst₂ P (sym e) (sym f) refl | inr f ↦ subst₂ P (sym e) (sym f) refl ]
     ]
 
-pub bit_xor : (x y b : ℕ) → bit (bit_xor x y) b ≡ (bit x b && not (bit y b) || not (bit x b) && bit y b)
-bit_xor x y b =
+pub bit_of_xor : (x y b : ℕ) → bit (bit_xor x y) b ≡ (bit x b && not (bit y b) || not (bit x b) && bit y b)
+bit_of_xor x y b =
     ap (λ (z : ℕ). eqb z 1) (ap (λ (z : ℕ). z % 2) (xor_shr x y b) ∙ xor_mod (x / 2 ^ b) (y / 2 ^ b) 1)
     ∙ low_xor (x / 2 ^ b % 2) (y / 2 ^ b % 2) (omega arith) (omega arith)
 
@@ -80,8 +80,8 @@ clear false y = refl
 
 pub bit_clear : (x y b : ℕ) → bit (bit_xor x (bit_and x y)) b ≡ (bit x b && not (bit y b))
 bit_clear x y b =
-    bit_xor x (bit_and x y) b
-    ∙ (ap (λ (z : Bool). bit x b && not z || not (bit x b) && z) (bit_and x y b) ∙ clear (bit x b) (bit y b))
+    bit_of_xor x (bit_and x y) b
+    ∙ (ap (λ (z : Bool). bit x b && not z || not (bit x b) && z) (bit_of_and x y b) ∙ clear (bit x b) (bit y b))
 
 -- a word has no bit from the first power of two above it on
 pub bit_high : (w n k : ℕ) → w < 2 ^ n → n ≤ k → bit w k ≡ false

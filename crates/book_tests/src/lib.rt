@@ -1,4 +1,6 @@
 // Examples of each kind of book; nothing is built of this crate.
+#![tactic(auto)]
+
 #[cfg(test)]
 mod clearance;
 #[cfg(test)]

@@ -1,4 +1,6 @@
 // Rule books: what every book answers, and the kinds of book.
+#![tactic(auto)]
+
 pub mod clearance;
 mod clearance_check;
 pub mod grid;

@@ -1,3 +1,5 @@
 // Whether a set is consistent, and if not, which option fails on which item.
+#![tactic(auto)]
+
 pub mod call;
 mod conditions;

@@ -1,4 +1,6 @@
 // A junction designer's day: is what a script left consistent, do two books agree, and what does screening leave?
+#![tactic(auto)]
+
 mod designer;
 mod junction;
 mod signals;

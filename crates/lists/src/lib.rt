@@ -1,4 +1,6 @@
 // Waiting lists: elements that wait, in memory that the caller lends.
+#![tactic(auto)]
+
 pub mod choice;
 pub mod newest;
 pub mod oldest;

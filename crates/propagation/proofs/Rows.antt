@@ -7,7 +7,7 @@ use Rattle.bits.specs.Bits.{bit}
 use Rattle.bits.proofs.Belows.{some_e, some_i}
 use Rattle.bits.proofs.Counts.{count_cong, count_cut}
 use Rattle.bits.proofs.Tests.{and_l, and_r, of_false, same_T, eqb_yes, eqb_no}
-use Rattle.bits.proofs.Words.{bit_and}
+use Rattle.bits.proofs.Words.{bit_of_and}
 use Rattle.meaning.specs.Meaning.{Meaning, Lawful}
 use Rattle.levels.specs.Sets.{words}
 use Rattle.levels.specs.Levels.{Linked}
@@ -100,7 +100,7 @@ module _ (m : Meaning) (law : Lawful m) where
   partner_word rows ws i a j b sup il al l =
       let most = law.items_most in
       let jl = l.0 in
-      bit_and (get_or rows (place i a j) 0) (get_or ws j 0) b
+      bit_of_and (get_or rows (place i a j) 0) (get_or ws j 0) b
       ∙ (ap (λ (z : Bool). z && words ws j b) (sup i a j b il al l (omega arith)) ∙ and_swap (m.together i a j b) (words ws j b))
 
   -- the witnesses on a third item are the bits that two words share with the set

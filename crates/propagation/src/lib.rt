@@ -1,4 +1,6 @@
 // The screening algorithm: crossing out options until what is left is closed.
+#![tactic(auto)]
+
 mod counts;
 mod domains;
 mod lower;

@@ -5,7 +5,7 @@ use native.Mathlib.Decide.{ℕ_discrete, dec_lt}
 use lib.Bits.{bit_and}
 use Rattle.bits.specs.Bits.{bit}
 use Rattle.bits.proofs.Tests.{to_true, to_false, same_T, eqb_yes, eqb_no}
-use Rattle.bits.proofs.Words.{bit_and, bit_high, bit_none, bit_up}
+use Rattle.bits.proofs.Words.{bit_of_and, bit_high, bit_none, bit_up}
 
 pub ltb_yes : (a n : ℕ) → a < n → ltb a n ≡ true
 ltb_yes a n h = to_true (ltb a n) (lt→ltb a n h)
@@ -50,7 +50,7 @@ bit_low n b =
 
 pub bit_minus : (x y b : ℕ) → x < 2 ^ 32 → y < 2 ^ 32 → bit (bit_and x (2 ^ 32 - 1 - y)) b ≡ (bit x b && not (bit y b))
 bit_minus x y b hx hy =
-    bit_and x (2 ^ 32 - 1 - y) b
+    bit_of_and x (2 ^ 32 - 1 - y) b
     ∙ (ap (λ (z : Bool). bit x b && z) (bit_not 32 y b hy)
     ∙ (elim (dec_lt b 32) [
       | yes l ↦ ap (λ (z : Bool). bit x b && (z && not (bit y b))) (ltb_yes b 32 l)

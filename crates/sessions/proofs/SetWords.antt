@@ -7,7 +7,7 @@ use lib.Bits.{bit_and, bit_or}
 use lib.ListN.{length-replicate, get_or-replicate, get_or-eq_default}
 use Rattle.bits.specs.Bits.{bit}
 use Rattle.bits.proofs.Tests.{eqb_yes, eqb_no}
-use Rattle.bits.proofs.Words.{bit_none, bit_or}
+use Rattle.bits.proofs.Words.{bit_none, bit_of_or}
 use Rattle.levels.specs.Sets.{words}
 use Rattle.runs.specs.State.{nothing}
 use Rattle.sessions.specs.View.{with_word, without_word}
@@ -29,7 +29,7 @@ changed f none ws i v w lt is =
     ]))
 
 pub words_with : (ws : List ℕ) (i w : ℕ) → i < length ws → words (set ws i (bit_or (get_or ws i 0) w)) ≡ with_word (words ws) i w
-words_with ws i w lt = changed ◌||◌ or-false ws i _ w lt (bit_or (get_or ws i 0) w)
+words_with ws i w lt = changed ◌||◌ or-false ws i _ w lt (bit_of_or (get_or ws i 0) w)
 
 pub words_without : (ws : List ℕ) (i w : ℕ) → i < length ws → get_or ws i 0 < 2 ^ 32 → w < 2 ^ 32
     → words (set ws i (bit_and (get_or ws i 0) (2 ^ 32 - 1 - w))) ≡ without_word (words ws) i w

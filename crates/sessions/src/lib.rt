@@ -1,4 +1,6 @@
 // Sessions: a rule book with the options struck and kept so far.
+#![tactic(auto)]
+
 pub mod edits;
 pub mod hint;
 pub mod marks;

@@ -6,7 +6,7 @@ use Rattle.std.proofs.lemmas.List.{get_or-set_same, get_or-set_other, length-set
 use Rattle.std.proofs.lemmas.Bool.{cases_order, cases_eq}
 use Rattle.std.proofs.lemmas.Bool.Decides.{nat_tests}
 use Rattle.bits.specs.Bits.{bit}
-use Rattle.bits.proofs.Words.{bit_or, bit_pow}
+use Rattle.bits.proofs.Words.{bit_of_or, bit_pow}
 use Rattle.bits.proofs.Tests.{eqb_no, eqb_yes}
 use Rattle.meaning.specs.Grid.{link_bit, place}
 use Rattle.meaning.specs.Pairs.{pair, start, pairs_for}
@@ -47,7 +47,7 @@ link_word links i j x h y =
           let w = get_or links i 0 in
           let s : get_or (with_link links i j) x 0 ≡ bit_or (get_or links i 0) (2 ^ j) = ap (λ (z : ℕ). get_or (with_link links i j) z 0) e ∙ get_or-set_same links i (bit_or (get_or links i 0) (2 ^ j)) 0 h in
           let t : link_bit (with_link links i j) x y ≡ (bit (get_or links i 0) y || eqb j y) =
-          ap (λ (z : ℕ). bit z y) s ∙ bit_or (get_or links i 0) (2 ^ j) y ∙ ap (λ (z : Bool). bit (get_or links i 0) y || z) (bit_pow j y) in
+          ap (λ (z : ℕ). bit z y) s ∙ bit_of_or (get_or links i 0) (2 ^ j) y ∙ ap (λ (z : Bool). bit (get_or links i 0) y || z) (bit_pow j y) in
           let u : bit (get_or links i 0) y ≡ link_bit links x y = ap (λ (z : ℕ). link_bit links z y) (sym e) in
           t ∙ ap (λ (z : Bool). z || eqb j y) u ∙ ap (λ (z : Bool). link_bit links x y || (z && eqb j y)) (sym (eqb_yes i x (sym e)))
       | inr ne ↦

@@ -3,7 +3,7 @@ use lib.Bits.{bit_and}
 use Rattle.bits.specs.Below.{one_if}
 use Rattle.bits.specs.Bits.{bit}
 use Rattle.bits.proofs.Tests.{of_true, of_false}
-use Rattle.bits.proofs.Words.{bit_and}
+use Rattle.bits.proofs.Words.{bit_of_and}
 use Rattle.meaning.specs.Meaning.{Meaning, Lawful}
 use Rattle.levels.specs.Sets.{words}
 use Rattle.levels.specs.Counted.{place, byte}
@@ -18,7 +18,7 @@ lowered_word : (m : Meaning) → Lawful m → (rows ws : List ℕ) (i j b a : �
     → bit (bit_and (get_or rows (place j b i) 0) (get_or ws i 0)) a ≡ (words ws i a && m.together i a j b)
 lowered_word m law rows ws i j b a sup il l jl bl =
     let n = law.items_most in
-    bit_and (get_or rows (place j b i) 0) (get_or ws i 0) a
+    bit_of_and (get_or rows (place j b i) 0) (get_or ws i 0) a
     ∙ (ap (λ (z : Bool). z && words ws i a) (support_back m law (1024 * m.items) rows i a j b sup il bl (jl, l) (omega arith)) ∙ and_swap (m.together i a j b) (words ws i a))
 
 pub lower-requires : goal.lower-requires

@@ -1,6 +1,6 @@
 use Rattle.std.proofs.Common.{rules}
-use Rattle.bits.proofs.Words.{bit_and}
+use Rattle.bits.proofs.Words.{bit_of_and}
 use Rattle.sessions.proofs.start.item_options.Goals as goal
 
 pub returns : goal.returns
-returns g c = search (rules, bit_and)
+returns g c = search (rules, bit_of_and)
