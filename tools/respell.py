@@ -19,7 +19,7 @@ TOKEN = re.compile(r"\"(?:[^\"\\]|\\.)*\"|«[^»]*»|" + WORD)
 CLAUSE = re.compile(r"\b(?:ghost use|ghost|requires|ensures|invariant)\b[^{;\n]*\{")
 CHECKER = re.compile(
     r"(?<![\w-])(overflow-(?:add|sub|mul|shl|shr|cast|step)|nonzero-(?:div|rem)|(?:offset|slice)-bounds|invariant-of|type-inv"
-    r"|in-(?:default|ok|err)|call-mut)(?![^-.\s])"
+    r"|in-(?:default|ok|err)|call-mut)(?![^-.;,)}\s])"
 )
 
 

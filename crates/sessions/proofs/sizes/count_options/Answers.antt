@@ -9,6 +9,6 @@ overflow_cast-result g c = let h : ones c.item_options.result ≤ 32 = ones-le 3
 
 pub returns : goal.returns
 returns g c = record {
-  value = word_count (g.B.RuleBook.meaning c.args.book.now) (words c.args.set.now) c.args.i c.item_options.result c.item_options.ensures (g.B.RuleBook.lawful c.args.book.now) c.item_options.type-inv;
-  most = ones-le 32 c.item_options.result c.item_options.type-inv;
+  value = word_count (g.B.RuleBook.meaning c.args.book.now) (words c.args.set.now) c.args.i c.item_options.result c.item_options.ensures (g.B.RuleBook.lawful c.args.book.now) c.item_options.type_inv;
+  most = ones-le 32 c.item_options.result c.item_options.type_inv;
 }
