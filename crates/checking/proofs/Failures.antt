@@ -1,7 +1,6 @@
 -- The first item on which the count's test fails is the first on which the level fails, and rules the option out.
-use Rattle.std.proofs.Common.{◌≡◌, ℕ, ◌<◌, ◌≤◌, Bool, true, false, cond, not, T, leb, List, is_some, Some, None, Ok, Option, Result, sym, ◌∙◌, subst, arith}
+use Rattle.std.proofs.Common.{◌≡◌, ℕ, Bool, false, not, leb, List, is_some, Some, None, Ok, Option, Result, subst, arith}
 use Rattle.std.proofs.lemmas.Bool.Decides.{nat_tests}
-use Rattle.bits.specs.Below.{if_then}
 use Rattle.bits.proofs.Belows.{every_e, every_fails}
 use Rattle.bits.proofs.Tests.{if_then_e, if_then_not, of_true, of_false}
 use Rattle.meaning.specs.Meaning.{Meaning, Lawful}

@@ -1,5 +1,5 @@
 -- The test of every item says that the words are a consistent set of the level.
-use Rattle.std.proofs.Common.{◌≡◌, ℕ, ◌^◌, ◌<◌, ◌≤◌, Bool, not, ◌&&◌, T, eqb, ltb, ◌↔◌, List, get_or, Ok, Result, sym, subst, arith, eqb→eq, ltb→lt, lt→ltb}
+use Rattle.std.proofs.Common.{◌≡◌, ℕ, ◌^◌, ◌<◌, Bool, not, ◌&&◌, T, eqb, ltb, ◌↔◌, List, get_or, Ok, Result, sym, subst, arith, eqb→eq, ltb→lt, lt→ltb}
 use native.Mathlib.Decide.{dec_lt}
 use Rattle.bits.specs.Below.{every}
 use Rattle.bits.specs.Bits.{bit}
@@ -9,7 +9,6 @@ use Rattle.bits.proofs.Words.{bit_high, bit_there, high_bit, some_bit}
 use Rattle.meaning.specs.Meaning.{Meaning, Lawful}
 use Rattle.meaning.specs.declared.refusal.Refusal.{Refusal}
 use Rattle.levels.specs.Sets.{Proper, words}
-use Rattle.levels.specs.Levels.{level_on}
 use Rattle.levels.specs.Counts.{count_of, count_on}
 use Rattle.levels.specs.Closed.{Closed, NoneEmpty}
 use Rattle.levels.specs.Tests.{kept_meets_test, meets_test}

@@ -1,7 +1,7 @@
 -- The tests of a partner count say the same as the definitions.
-use Rattle.std.proofs.Common.{ℕ, ◌<◌, Bool, not, ◌&&◌, ◌||◌, T, eqb, ltb, ◌≢◌, ◌↔◌, subst, inl, inr, eqb→eq, ltb→lt, lt→ltb}
+use Rattle.std.proofs.Common.{ℕ, ◌<◌, not, ◌&&◌, T, eqb, ltb, ◌≢◌, ◌↔◌, subst, inl, inr, eqb→eq, ltb→lt, lt→ltb}
 use lib.Dec.{eqb_refl}
-use Rattle.bits.specs.Below.{every, some}
+use Rattle.bits.specs.Below.{every}
 use Rattle.bits.proofs.Belows.{every_e, every_i, some_e, some_i}
 use Rattle.bits.proofs.Tests.{and_l, and_r, and_i, or_cases, or_l, or_r, not_e, not_i, if_then_e, if_then_i}
 use Rattle.meaning.specs.Meaning.{Meaning}

@@ -2,7 +2,7 @@
 -- partners: how many partners a has on j
 -- count_on c: a partner, and a path partner where there are at most c partners
 -- count_of: the count that stands for a level; level_numbered: the level of a number, or the refusal
-use Rattle.std.specs.Prelude.{ℕ, ◌≤◌, Bool, cond, ◌&&◌, Ok, Err, Result, ◌==◌}
+use Rattle.std.specs.Prelude.{ℕ, ◌≤◌, cond, ◌&&◌, Ok, Err, Result, ◌==◌}
 use Rattle.bits.specs.Below.{count}
 use Rattle.meaning.specs.Meaning.{Meaning}
 use Rattle.meaning.specs.declared.refusal.Refusal.{Refusal}

@@ -2,7 +2,7 @@
 -- green i a: when option a of item i starts its green
 -- gap_of i j: how far apart the starts of items i and j have to be; 0 where nothing is asked
 -- apart x y: how far the starts x and y are from each other
--- ..-right: a start, a gap has nothing that the check forbids
+-- .._right: a start, a gap has nothing that the check forbids
 -- clearance_of: the meaning that an edition, a number of items, counts, starts and gaps give
 -- clearance_meaning: what checked parts mean; clearance_check: the check's answer; clearance_book: the book made of any parts
 use Rattle.std.specs.Prelude.{ℕ, ◌+◌, ◌-◌, ◌*◌, ◌≤◌, Bool, cond, ◌&&◌, List, length, is_ok, Ok, Err, Result, nat_le, nat_lt, slice_index}

@@ -1,7 +1,7 @@
 -- What the parts of a grid book mean, and which parts its check refuses.
 -- place i a j: where the row word of option a of i against item j stands, for i < j
 -- link_bit, row_bit: what a link word and a row word say
--- ..-right: a link word, a row word has nothing that the check forbids
+-- .._right: a link word, a row word has nothing that the check forbids
 -- grid_of: the meaning that an edition, a number of items, counts, link words and row words give
 -- grid_meaning: what checked parts mean; grid_check: the check's answer; grid_book: the book made of any parts
 use Rattle.std.specs.Prelude.{ℕ, ◌+◌, ◌-◌, ◌*◌, ◌^◌, ◌≤◌, Bool, true, false, cond, not, ◌&&◌, ◌||◌, List, length, is_ok, Ok, Err, Result, ◌==◌, nat_le, nat_lt, slice_index}

@@ -1,6 +1,6 @@
 -- The limits of editions, items and option counts, which are the same for every book made of parts.
 -- within x most: the number x lies within 1 to most
--- ..-right: an edition with n items, a count, the counts of n items keep the limits
+-- .._right: an edition with n items, a count, the counts of n items keep the limits
 -- options_in: how many options item i has by the counts of n items
 use Rattle.std.specs.Prelude.{ℕ, Bool, cond, ◌&&◌, List, nat_le, nat_lt, slice_index}
 use Rattle.bits.specs.Below.{every}

@@ -1,6 +1,6 @@
 -- After every run of calls from a newly opened session, the session is not barred and what is struck is the tally.
 -- Shows v t: the session v is not barred, and t is what is struck in it
-use Rattle.std.proofs.Common.{◌≡◌, ℕ, Bool, true, false, cond, not, ◌&&◌, T, eqb, ltb, leb, List, [], ◌∷◌, is_ok, Ok, Err, Result, refl, ap, ◌∙◌, subst, arith, le→leb, ltb→lt, leb→le, nltb→le}
+use Rattle.std.proofs.Common.{◌≡◌, ℕ, Bool, true, false, cond, not, ◌&&◌, eqb, ltb, leb, List, [], ◌∷◌, is_ok, Ok, Err, Result, refl, ap, ◌∙◌, subst, arith, le→leb, ltb→lt, leb→le, nltb→le}
 use mathlib.Core.Bool.{not-not}
 use lib.Dec.{eqb_refl}
 use Rattle.bits.proofs.Tests.{and_i, not_i, same_T, to_true}

@@ -6,7 +6,7 @@
 -- Layout m f: f gives each item one option, and options of linked items stand together
 -- Settled: what the law says of one screening; Alike: what it says of two
 -- Holds: what it says of one session; LawfulRun: what it says of a whole run
-use Rattle.std.specs.Prelude.{◌≡◌, ℕ, ◌-◌, ◌*◌, ◌<◌, ◌≤◌, Bool, false, T, ◌⊎◌, ◌↔◌, List, [], ◌∷◌, ◌++◌, Ok, slice_index}
+use Rattle.std.specs.Prelude.{◌≡◌, ℕ, ◌-◌, ◌*◌, ◌<◌, ◌≤◌, false, T, ◌⊎◌, ◌↔◌, List, [], ◌∷◌, ◌++◌, Ok, slice_index}
 use Rattle.meaning.specs.Meaning.{Meaning}
 use Rattle.meaning.specs.declared.refusal.Refusal.TheVariants.{NothingConsistent}
 use Rattle.levels.specs.Sets.{Set, Inside}

@@ -3,7 +3,7 @@
 -- Step: one call of a run with what it was handed, said and left
 -- Run m v ss v': the steps ss lead from the session v to v'
 -- tallied: the plain tally, what is struck by the book's meaning and the calls' arguments alone
-use Rattle.std.specs.Prelude.{◌≡◌, ℕ, cond, not, ◌&&◌, List, [], ◌∷◌, Ok, Err, Result}
+use Rattle.std.specs.Prelude.{◌≡◌, cond, not, ◌&&◌, List, [], ◌∷◌, Ok, Err, Result}
 use Rattle.meaning.specs.Meaning.{Meaning}
 use Rattle.meaning.specs.declared.refusal.Refusal.{Refusal}
 use Rattle.levels.specs.Sets.{Set}

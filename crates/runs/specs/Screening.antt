@@ -5,11 +5,10 @@
 -- Succeeds: it keeps the largest closed set, answers its size and what it crossed out, and fills the count bytes
 -- Fails: it found nothing consistent, so the session stays, and the count bytes are 0
 -- Screens: a refused screening changes nothing; else it succeeds or says that nothing is consistent
-use Rattle.std.specs.Prelude.{◌≡◌, ℕ, ◌-◌, ◌*◌, ◌<◌, ◌≤◌, Bool, true, false, cond, not, ◌&&◌, T, List, length, Ok, Err, Result, ◌==◌, nat_le, nat_lt, slice_index}
+use Rattle.std.specs.Prelude.{◌≡◌, ℕ, ◌-◌, ◌*◌, ◌<◌, ◌≤◌, Bool, cond, ◌&&◌, T, List, length, Ok, Err, Result, ◌==◌, nat_le, nat_lt, slice_index}
 use Rattle.meaning.specs.Meaning.{Meaning}
 use Rattle.meaning.specs.declared.refusal.Refusal.{Refusal}
 use Rattle.meaning.specs.declared.refusal.Refusal.TheVariants.{Barred, NoSuchLevel, NoRoom, NothingConsistent}
-use Rattle.levels.specs.Sets.{Set}
 use Rattle.levels.specs.Levels.{level_on}
 use Rattle.levels.specs.Counts.{level_numbered}
 use Rattle.levels.specs.declared.level.Level.{Level}

@@ -4,7 +4,7 @@ use Rattle.meaning.specs.Meaning.{Meaning}
 use Rattle.runs.specs.declared.call.Answer.{Answer}
 use Rattle.runs.specs.declared.call.Call.{Call}
 use Rattle.runs.specs.Law.{After, LawfulRun}
-use Rattle.runs.specs.Runs.{Did, Run, Step, calls}
+use Rattle.runs.specs.Runs.{Did, Run, Step}
 use Rattle.runs.specs.Screening.{Room}
 use Rattle.runs.specs.State.{State, opened}
 use Rattle.runs.proofs.WholeRuns.{calls_append, run_append, run_law}

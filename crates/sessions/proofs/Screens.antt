@@ -1,5 +1,5 @@
 -- What the propagation leaves is what an admitted screening comes to.
-use Rattle.std.proofs.Common.{◌≡◌, ℕ, ◌-◌, ◌*◌, ◌<◌, ◌≤◌, Bool, true, false, not, ◌&&◌, T, eqb, ltb, leb, length, get_or, Ok, refl, ap, ◌∙◌, subst, arith, eqb→eq, ltb→lt, lt→ltb, leb→le}
+use Rattle.std.proofs.Common.{◌≡◌, ℕ, ◌-◌, ◌*◌, ◌<◌, ◌≤◌, Bool, true, false, not, T, eqb, ltb, leb, length, get_or, Ok, refl, ap, ◌∙◌, subst, arith, eqb→eq, ltb→lt, lt→ltb, leb→le}
 use mathlib.Core.Path.{fun_ext}
 use mathlib.Core.Bool.{and-true}
 use Rattle.std.proofs.lemmas.Bool.Decides.{nat_tests}

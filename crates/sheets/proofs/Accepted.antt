@@ -1,5 +1,5 @@
 -- An accepted sheet is the text of the junction that was read, which the grid book's check accepts.
-use Rattle.std.proofs.Common.{◌≡◌, ℕ, zero, suc, ◌+◌, ◌-◌, ◌*◌, ◌^◌, ◌<◌, ◌≤◌, Bool, true, false, cond, not, ◌&&◌, T, eqb, ltb, leb, ◌≢◌, ◌⊎◌, List, [], ◌∷◌, ◌++◌, map, length, get_or, replicate, Ok, Err, decimal, Result, sym, refl, ap, ◌∙◌, subst, inl, inr, ⊎_elim, append_assoc, append-nil, arith}
+use Rattle.std.proofs.Common.{◌≡◌, ℕ, zero, ◌+◌, ◌^◌, ◌<◌, ◌≤◌, Bool, true, false, not, ◌&&◌, eqb, ltb, leb, ◌⊎◌, List, [], ◌∷◌, ◌++◌, map, length, get_or, Ok, decimal, sym, refl, ap, ◌∙◌, subst, inl, inr, append-nil, arith}
 use Rattle.std.specs.List.{range_with_len, flat_map}
 use Rattle.std.proofs.lemmas.List.{length-replicate, nil_from_length}
 use Rattle.std.proofs.lemmas.Bool.{and_parts, and_from, cases_lt, cases_eq, cases_order, cases_Bool, cond-true, cond-false, eqb-true, ltb-true, leb-true, lt-ltb, le-leb, eq-eqb}
@@ -11,16 +11,15 @@ use Rattle.bits.proofs.Tests.{to_true, of_true}
 use Rattle.bits.proofs.Words.{high_bit, some_bit}
 use Rattle.meaning.specs.Grid.{contents_right, link_bit, link_right, links_right, place, row_right, rows_for, rows_right, same, sizes_right}
 use Rattle.meaning.specs.Limits.{count_right, counts_right, limits_right, within}
-use Rattle.meaning.specs.declared.refusal.Refusal.{Refusal}
 use Rattle.sheets.specs.declared.draft.Draft.{Draft}
 use Rattle.sheets.specs.Fields.{cut}
 use Rattle.sheets.specs.Texts.{ended, lines_of, is_right, sheet_of, text_of, opening_names, item_names, item_line, pair_names, pair_lines}
-use Rattle.sheets.specs.Reading.{closing, follow, opening_of, reading, start, step, is_whole}
+use Rattle.sheets.specs.Reading.{closing, follow, opening_of, start, step, is_whole}
 use Rattle.sheets.specs.Law.{Accepted, BlankElse, OnlyTexts}
 use Rattle.sheets.proofs.Cutting.{cut_joins}
-use Rattle.sheets.proofs.Drafted.{Drafted, count_most}
+use Rattle.sheets.proofs.Drafted.{Drafted}
 use Rattle.sheets.proofs.Forms.{opening_only}
-use Rattle.sheets.proofs.Sound.{Fixed, Items, Rest, sound_items, nothing_at}
+use Rattle.sheets.proofs.Sound.{Items, sound_items, nothing_at}
 use Rattle.sheets.proofs.Steps.{cond_in, names_ok, opened, opening_ok, then_ok}
 
 -- the first lines

@@ -1,18 +1,16 @@
 -- Every line of a right junction's text is accepted at its turn, and gives what the junction has.
 -- given_yet q a x b: in the order of the lines, the option b of the pair x comes before the option a of the pair q
 -- Agree s d q a: the draft d has what the pair lines of s before the option a of the pair q give
-use Rattle.std.proofs.Common.{◌≡◌, ℕ, zero, suc, ◌+◌, ◌-◌, ◌*◌, ◌/◌, ◌%◌, ◌^◌, ◌<◌, ◌≤◌, Bool, true, false, cond, not, ◌&&◌, ◌||◌, eqb, ltb, leb, ◌≢◌, ◌⊎◌, List, [], ◌∷◌, ◌++◌, map, length, get_or, Some, Ok, Err, decimal, Result, sym, refl, ap, ◌∙◌, subst, inl, inr, ⊎_elim, arith}
-use Rattle.std.specs.List.{range_with_len}
+use Rattle.std.proofs.Common.{◌≡◌, ℕ, ◌+◌, ◌*◌, ◌<◌, ◌≤◌, Bool, true, false, cond, not, ◌&&◌, ◌||◌, eqb, ltb, leb, ◌⊎◌, List, length, get_or, Some, Ok, sym, ap, ◌∙◌, subst, inl, inr, ⊎_elim, arith}
 use Rattle.std.proofs.lemmas.List.FromFn.{length-map-range_with_len}
-use Rattle.std.proofs.lemmas.Bool.{and_from, and_parts, and_right, cases_lt, cases_eq, cases_Bool, cond-true, cond-false, eqb-true, eq-eqb, ne_eqb, ltb-true, leb-true, lt-ltb, le-ltb, le-leb}
+use Rattle.std.proofs.lemmas.Bool.{and_from, and_parts, and_right, cases_eq, cases_Bool, cond-true, cond-false, eq-eqb, ne_eqb, ltb-true, lt-ltb, le-ltb, le-leb}
 use Rattle.std.proofs.lemmas.Bool.Decides.{nat_tests}
 use Rattle.bits.specs.Below.{one_if}
 use Rattle.bits.specs.Bits.{bit}
 use Rattle.meaning.specs.Grid.{link_bit, place}
-use Rattle.meaning.specs.declared.refusal.Refusal.{Refusal}
 use Rattle.sheets.specs.declared.draft.Draft.{Draft}
 use Rattle.sheets.specs.Fields.{are_bits, partners, word_of}
-use Rattle.sheets.specs.Texts.{Sheet, first, is_given, pair_line, pair_lines, is_right, second}
+use Rattle.sheets.specs.Texts.{Sheet, first, is_given, pair_line, is_right, second}
 use Rattle.sheets.specs.Reading.{follow, pair_of, step, then_lines, is_turn, with_row}
 use Rattle.sheets.specs.Reading as reading
 use Rattle.sheets.proofs.Drafted.{Drafted, drafted_next, links_now, row_now, row_other}

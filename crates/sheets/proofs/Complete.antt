@@ -1,16 +1,16 @@
 -- The text of a right junction is accepted, and read as that junction.
-use Rattle.std.proofs.Common.{◌≡◌, ℕ, zero, suc, ◌+◌, ◌-◌, ◌*◌, ◌/◌, ◌%◌, ◌^◌, ◌<◌, ◌≤◌, Bool, true, false, cond, not, ◌&&◌, ◌||◌, eqb, ltb, leb, ◌≢◌, ◌⊎◌, List, [], ◌∷◌, ◌++◌, map, length, get_or, set, Some, Ok, Err, Result, sym, refl, ap, ◌∙◌, subst, inl, inr, ⊎_elim, arith}
+use Rattle.std.proofs.Common.{◌≡◌, ℕ, zero, suc, ◌+◌, ◌-◌, ◌*◌, ◌<◌, ◌≤◌, Bool, true, false, cond, ◌&&◌, eqb, ltb, leb, ◌⊎◌, List, [], ◌∷◌, ◌++◌, map, length, get_or, set, Ok, Result, sym, refl, ap, ◌∙◌, subst, inl, inr, arith}
 use Rattle.std.specs.List.{range_with_len, flat_map}
 use Rattle.std.proofs.lemmas.List.FromFn.{length-map-range_with_len}
 use Rattle.bits.proofs.Words.{bit_none}
 use Rattle.std.proofs.lemmas.List.{get_or-set_same, get_or-set_other}
-use Rattle.std.proofs.lemmas.Bool.{and_from, and_parts, cases_lt, cases_eq, cases_order, cases_Bool, cond-true, cond-false, eqb-true, eq-eqb, ne_eqb, ltb-true, leb-true, lt-ltb, le-ltb, le-leb}
+use Rattle.std.proofs.lemmas.Bool.{and_from, and_parts, cases_lt, cases_eq, cases_Bool, cond-true, cond-false, eq-eqb, ltb-true, leb-true, lt-ltb}
 use Rattle.std.proofs.lemmas.Bool.Decides.{nat_tests}
 use Rattle.meaning.specs.Grid.{link_bit, place}
 use Rattle.meaning.specs.Limits.{within}
 use Rattle.meaning.specs.declared.refusal.Refusal.{Refusal}
 use Rattle.sheets.specs.declared.draft.Draft.{Draft}
-use Rattle.sheets.specs.Texts.{Sheet, Same, first, is_given, item_line, item_names, lines_of, opening_line, opening_names, pair_line, pair_lines, pair_names, is_right, second, sheet_of, text_of, ◌·◌}
+use Rattle.sheets.specs.Texts.{Sheet, first, is_given, item_line, item_names, lines_of, opening_line, opening_names, pair_line, pair_lines, pair_names, is_right, second}
 use Rattle.sheets.specs.Reading.{follow, start, step, then_lines, with_count}
 use Rattle.sheets.specs.Reading as reading
 use Rattle.sheets.proofs.Agree.{Agree, accepted, agree_next, due_last, due_more, given_yet, next}

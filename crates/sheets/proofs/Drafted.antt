@@ -1,7 +1,7 @@
 -- What holds of a draft once its items are read, and that every accepted pair line keeps it.
 -- Done d q: the lines of the pair q were given, or some of them
 -- up_to s q a: the pair lines before the option a of the pair q
-use Rattle.std.proofs.Common.{◌≡◌, ℕ, ◌+◌, ◌-◌, ◌*◌, ◌/◌, ◌%◌, ◌^◌, ◌<◌, ◌≤◌, Bool, true, false, cond, not, ◌&&◌, ◌||◌, eqb, ltb, leb, ◌≢◌, ◌⊎◌, List, [], ◌∷◌, ◌++◌, map, length, get_or, set, decimal, sym, refl, ap, ◌∙◌, subst, inl, inr, ⊎_elim, append_assoc, append-nil, arith}
+use Rattle.std.proofs.Common.{◌≡◌, ℕ, ◌+◌, ◌-◌, ◌*◌, ◌^◌, ◌<◌, ◌≤◌, Bool, true, false, ◌&&◌, ◌||◌, eqb, ltb, ◌≢◌, ◌⊎◌, List, [], ◌∷◌, ◌++◌, map, length, get_or, decimal, sym, ap, ◌∙◌, subst, inl, inr, ⊎_elim, append_assoc, append-nil, arith}
 use Rattle.std.specs.List.{range_with_len, flat_map}
 use Rattle.std.proofs.lemmas.List.FromFn.{map-range_with_len_more}
 use Rattle.std.proofs.lemmas.List.{get_or-set_same, get_or-set_other, length-set}
@@ -13,7 +13,7 @@ use Rattle.meaning.proofs.Starts.{pair_within}
 use Rattle.sheets.specs.declared.draft.Draft.{Draft}
 use Rattle.sheets.specs.Fields.{are_bits, partners, word_of}
 use Rattle.sheets.specs.Texts.{Sheet, sheet_of, first, second, is_given, pair_line, pair_lines, ◌·◌}
-use Rattle.sheets.specs.Reading.{is_turn, with_row}
+use Rattle.sheets.specs.Reading.{with_row}
 use Rattle.sheets.proofs.Joins.{join_next, join_same, join_skip}
 use Rattle.sheets.proofs.Partners.{map_same, word_small, partners_only}
 use Rattle.sheets.proofs.Places.{first_of, second_of, place_apart, links_set, links_length}

@@ -1,9 +1,9 @@
 -- The laws of sheets.
-use Rattle.std.proofs.Common.{◌≡◌, ℕ, zero, suc, ◌+◌, ◌-◌, ◌*◌, ◌/◌, ◌%◌, ◌^◌, ◌<◌, ◌≤◌, Bool, true, false, cond, not, ◌&&◌, ◌||◌, eqb, ltb, leb, ◌⊎◌, List, [], ◌∷◌, ◌++◌, map, length, get_or, take, is_ok, Ok, Err, decimal, Result, sym, refl, ap, ◌∙◌, subst, inl, inr, ⊎_elim, arith}
+use Rattle.std.proofs.Common.{◌≡◌, ℕ, zero, suc, ◌+◌, ◌-◌, ◌*◌, ◌^◌, ◌<◌, ◌≤◌, Bool, true, false, cond, not, ◌&&◌, eqb, ltb, leb, List, [], ◌∷◌, ◌++◌, map, length, get_or, take, is_ok, Ok, Err, decimal, Result, sym, refl, ap, ◌∙◌, subst, inl, inr, arith}
 use Rattle.std.specs.List.{range_with_len, flat_map}
 use Rattle.std.proofs.lemmas.List.{length-append, take_all}
 use Rattle.std.proofs.lemmas.List.FromFn.{length-map-range_with_len}
-use Rattle.std.proofs.lemmas.Bool.{and_from, and_parts, cases_lt, cases_order, cases_Bool, cond-true, cond-false, eq-eqb, eqb-false, ltb-true, lt-ltb, leb-true, le-leb, not-true}
+use Rattle.std.proofs.lemmas.Bool.{and_from, and_parts, cases_order, cases_Bool, cond-true, cond-false, eq-eqb, eqb-false, ltb-true, lt-ltb, leb-true, le-leb, not-true}
 use Rattle.std.proofs.lemmas.Bool.Decides.{nat_tests}
 use Rattle.bits.specs.Bits.{bit}
 use Rattle.meaning.specs.Grid.{contents_right, grid_check, link_bit, place, sizes_right}
@@ -18,7 +18,7 @@ use Rattle.sheets.specs.Reading.{closing, follow, reading, start, then_lines, is
 use Rattle.sheets.specs.Writing.{fitting, then_text, writing}
 use Rattle.sheets.specs.Law.{Checked, Faults, OnlyOne, ReadsBack, WrittenBack}
 use Rattle.sheets.proofs.Accepted.{only_texts, right_now, sound_lines}
-use Rattle.sheets.proofs.Agree.{Agree, given_yet}
+use Rattle.sheets.proofs.Agree.{given_yet}
 use Rattle.sheets.proofs.Complete.{Between, whole_text}
 use Rattle.sheets.proofs.Cutting.{AllFree, Free, all_free_append, cut_ended, decimal_free, free_append}
 use Rattle.sheets.proofs.Faulty.{closing_line, go_on, then_err, wrong_line}

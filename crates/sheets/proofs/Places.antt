@@ -1,6 +1,5 @@
 -- Where links and row words stand, and what a new one leaves of the others.
-use Rattle.std.proofs.Common.{◌≡◌, ℕ, ◌+◌, ◌-◌, ◌*◌, ◌/◌, ◌%◌, ◌^◌, ◌<◌, ◌≤◌, Bool, true, false, cond, ◌&&◌, ◌||◌, eqb, ◌≢◌, ◌⊎◌, List, length, get_or, set, sym, refl, ap, ◌∙◌, subst, inl, inr, ⊎_elim, arith}
-use native.Mathlib.Decide.{ℕ_discrete}
+use Rattle.std.proofs.Common.{◌≡◌, ℕ, ◌+◌, ◌*◌, ◌^◌, ◌<◌, Bool, false, ◌&&◌, ◌||◌, eqb, List, length, get_or, sym, ap, ◌∙◌, subst, inl, inr, arith}
 use lib.Bits.{bit_or}
 use Rattle.std.proofs.lemmas.List.{get_or-set_same, get_or-set_other, length-set}
 use Rattle.std.proofs.lemmas.Bool.{cases_order, cases_eq}
@@ -9,7 +8,7 @@ use Rattle.bits.specs.Bits.{bit}
 use Rattle.bits.proofs.Words.{bit_of_or, bit_pow}
 use Rattle.bits.proofs.Tests.{eqb_no, eqb_yes}
 use Rattle.meaning.specs.Grid.{link_bit, place}
-use Rattle.meaning.specs.Pairs.{pair, start, pairs_for}
+use Rattle.meaning.specs.Pairs.{pair, start}
 use Rattle.meaning.proofs.Starts.{pair_below}
 use Rattle.sheets.specs.Reading.{with_link}
 use Rattle.sheets.specs.Texts.{first, second}

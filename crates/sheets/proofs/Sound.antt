@@ -1,22 +1,22 @@
 -- What is read was the text of a right junction.
 -- Fixed: the later draft has the editions and the items of the earlier one, and its counts below i
 -- Items d i: what holds of a draft whose first i items are read, and nothing after them
-use Rattle.std.proofs.Common.{◌≡◌, ℕ, zero, suc, ◌+◌, ◌-◌, ◌*◌, ◌^◌, ◌<◌, ◌≤◌, Bool, true, false, cond, not, ◌&&◌, eqb, ltb, leb, ◌≢◌, ◌⊎◌, List, [], ◌∷◌, ◌++◌, map, length, get_or, set, replicate, Ok, Err, decimal, Result, sym, refl, ap, ◌∙◌, subst, inl, inr, ⊎_elim, append_assoc, append-nil, arith, pow_pos}
+use Rattle.std.proofs.Common.{◌≡◌, ℕ, zero, suc, ◌+◌, ◌-◌, ◌*◌, ◌^◌, ◌<◌, ◌≤◌, true, false, ltb, leb, List, [], ◌∷◌, ◌++◌, map, length, get_or, set, replicate, Ok, decimal, Result, sym, refl, ap, ◌∙◌, subst, inl, inr, ⊎_elim, append_assoc, append-nil, arith, pow_pos}
 use Rattle.std.specs.List.{range_with_len, flat_map}
-use Rattle.std.proofs.lemmas.List.{get_or-set_same, get_or-set_other, length-set, length-replicate, get_or-replicate, get_or_past, nil_from_length}
-use Rattle.std.proofs.lemmas.Bool.{and_parts, cases_lt, cases_eq, cases_Bool, cond-false, eqb-true, ltb-true, leb-true}
+use Rattle.std.proofs.lemmas.List.{get_or-set_same, get_or-set_other, length-set, length-replicate, get_or-replicate, get_or_past}
+use Rattle.std.proofs.lemmas.Bool.{and_parts, cases_lt, cases_eq, cond-false, ltb-true, leb-true}
 use Rattle.std.proofs.lemmas.Bool.Decides.{nat_tests}
 use Rattle.bits.proofs.Words.{bit_none}
-use Rattle.meaning.specs.Grid.{link_bit, place, rows_for}
+use Rattle.meaning.specs.Grid.{link_bit, place}
 use Rattle.meaning.specs.Limits.{limits_right, within}
 use Rattle.meaning.specs.declared.refusal.Refusal.{Refusal}
 use Rattle.sheets.specs.declared.draft.Draft.{Draft}
-use Rattle.sheets.specs.Texts.{sheet_of, first, second, is_given, item_line, opening_line, pair_line, pair_lines, lines_of, opening_names, item_names, pair_names, ◌·◌}
-use Rattle.sheets.specs.Reading.{follow, item_of, opening_of, pair_of, start, step, with_count}
-use Rattle.sheets.proofs.Drafted.{Done, Drafted, up_to, linked_no, next, drafted_next, line_is, seen_next}
-use Rattle.sheets.proofs.Forms.{item_only, opening_only, pair_only}
+use Rattle.sheets.specs.Texts.{sheet_of, first, second, is_given, item_line, pair_line, pair_lines, pair_names, ◌·◌}
+use Rattle.sheets.specs.Reading.{follow, item_of, pair_of, step, with_count}
+use Rattle.sheets.proofs.Drafted.{Drafted, up_to, linked_no, next, drafted_next, line_is, seen_next}
+use Rattle.sheets.proofs.Forms.{item_only, pair_only}
 use Rattle.sheets.proofs.Joins.{join_skip}
-use Rattle.sheets.proofs.Steps.{follow_append, item_ok, names_ok, opened, opening_ok, pair_ok, step_item, step_names, step_pair, then_ok}
+use Rattle.sheets.proofs.Steps.{item_ok, names_ok, pair_ok, step_item, step_names, step_pair, then_ok}
 
 pub record Fixed (d c : Draft) (i : ℕ) : Type 0 where
   pub asked : c.asked ≡ d.asked

@@ -6,7 +6,7 @@
 -- step d k l: the same for the line that is due after d; follow: for several lines, from line k on
 -- is_whole: nothing more is due after line k
 -- reading b: the junction that the bytes b give, or the refusal due to them
-use Rattle.std.specs.Prelude.{ℕ, ◌+◌, ◌-◌, ◌*◌, ◌^◌, Bool, true, false, cond, not, ◌&&◌, List, [], ◌∷◌, length, replicate, Some, None, Ok, Err, Option, Result, ◌==◌, bit_or, nat_le, nat_lt, slice_index, slice_set}
+use Rattle.std.specs.Prelude.{ℕ, ◌+◌, ◌*◌, ◌^◌, Bool, cond, not, ◌&&◌, List, [], ◌∷◌, length, replicate, Some, None, Ok, Err, Option, Result, ◌==◌, bit_or, nat_le, nat_lt, slice_index, slice_set}
 use Rattle.std.specs.Str.{bytes_eq}
 use Rattle.meaning.specs.Grid.{place}
 use Rattle.meaning.specs.Limits.{within}

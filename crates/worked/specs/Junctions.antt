@@ -1,6 +1,6 @@
 -- The worked junctions, each as what the words of its book mean.
 -- padded: the words of one pair of items, or of one item, with zeros up to 32
--- ..-rows: the row words of the pairs of items, in the pairs' order
+-- .._rows: the row words of the pairs of items, in the pairs' order
 -- j1: edition 7, three linked items with 2, 4 and 4 options, in which option 0 of item 0 has partners and no path partner
 -- j2, j3: edition 1 like those below; three items with two options, four items with three options, all linked, equal numbers forbidden
 -- j4, j6: one item, two unlinked items, of one option each

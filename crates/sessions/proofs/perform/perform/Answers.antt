@@ -1,4 +1,4 @@
-use Rattle.std.proofs.Common.{◌≡◌, ℕ, ◌+◌, ◌<◌, ◌≤◌, List, [], ◌∷◌, ◌++◌, length, take, vec_items, sym, refl, ap, ◌∙◌, subst, arith}
+use Rattle.std.proofs.Common.{◌≡◌, ◌+◌, List, [], ◌∷◌, ◌++◌, take, vec_items, sym, refl, ap, ◌∙◌, subst, arith}
 use Rattle.std.proofs.lemmas.List.{take_all, take_more}
 use Rattle.meaning.specs.Meaning.{Meaning}
 use Rattle.runs.specs.declared.call.Answer.{Answer}
@@ -6,7 +6,7 @@ use Rattle.runs.specs.declared.call.Call.{Call}
 use Rattle.runs.specs.Runs.{Did}
 use Rattle.runs.specs.Screening.{Room}
 use Rattle.runs.specs.State.{State, opened}
-use Rattle.sessions.specs.Performed.{Performs, Steps}
+use Rattle.sessions.specs.Performed.{Steps}
 use Rattle.sessions.specs.Said.{room}
 use Rattle.sessions.specs.View.{view}
 use Rattle.sessions.proofs.Performing.{performs, steps_more, steps_none}

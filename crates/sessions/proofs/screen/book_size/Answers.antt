@@ -1,4 +1,4 @@
-use Rattle.std.proofs.Common.{◌≡◌, ap, ◌∙◌}
+use Rattle.std.proofs.Common.{ap, ◌∙◌}
 use Rattle.levels.specs.Sets.{Set}
 use Rattle.levels.specs.Size.{size}
 use Rattle.runs.specs.State.{unstruck}

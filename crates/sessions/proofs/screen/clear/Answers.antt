@@ -1,4 +1,4 @@
-use Rattle.std.proofs.Common.{refl, arith, rules}
+use Rattle.std.proofs.Common.{refl, rules}
 use Rattle.propagation.proofs.Bytes.{tabled_set}
 use Rattle.sessions.proofs.screen.clear.Goals as goal
 

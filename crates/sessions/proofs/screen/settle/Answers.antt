@@ -1,4 +1,4 @@
-use Rattle.std.proofs.Common.{◌≡◌, ℕ, ◌≤◌, sym, refl, ap, ◌∙◌, subst, arith}
+use Rattle.std.proofs.Common.{◌≡◌, sym, refl, ap, ◌∙◌, subst, arith}
 use Rattle.bags.specs.Bags.{size as number}
 use Rattle.bags.proofs.BagLaws.{size_none}
 use Rattle.levels.specs.Sets.{Set, words}

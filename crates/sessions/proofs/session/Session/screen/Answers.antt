@@ -1,4 +1,4 @@
-use Rattle.std.proofs.Common.{◌≡◌, true, Ok, Result, refl, subst, rules}
+use Rattle.std.proofs.Common.{◌≡◌, true, Result, refl, subst, rules}
 use Rattle.meaning.specs.declared.refusal.Refusal.{Refusal}
 use Rattle.levels.specs.Sets.{words}
 use Rattle.levels.specs.declared.level.Level.{Level}
