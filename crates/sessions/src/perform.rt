@@ -21,10 +21,10 @@ pub struct Performed<B> {
 }
 
 // What an edit's result says.
-fn answer_of(res: Result<(), Refusal>) -> Answer
-    ensures { result ≡ said res }
+fn answer_of(edit: Result<(), Refusal>) -> Answer
+    ensures { result ≡ said edit }
 {
-    match res {
+    match edit {
         Ok(()) => Answer::Done,
         Err(refusal) => Answer::Refused { refusal },
     }

@@ -1,4 +1,4 @@
--- That as many wait as `count` says is `length-ringed`; the search rules it at each place.
+-- That as many wait as `count` says is `length_ringed`; the search rules it at each place.
 use Rattle.std.proofs.Common.{◌<◌, length, arith, rules}
 use Rattle.bags.proofs.BagLaws.{bag_last}
 use Rattle.bags.proofs.Views.{ringed_push, length_ringed}
