@@ -3,3 +3,4 @@ pub mod Belows
 pub mod Counts
 pub mod Words
 pub mod Ones
+pub mod Ranges

@@ -19,12 +19,7 @@ pub struct JointBook<P: RuleBook, Q: RuleBook> {
 fn same_counts<P: RuleBook, Q: RuleBook>(first: &P, second: &Q, n: usize) -> bool
     ensures { result ≡ every n (λ i. nat_eq ((P.RuleBook.meaning first.now).options i) ((Q.RuleBook.meaning second.now).options i)) }
 {
-    for i in 0..n {
-        if first.options(i) != second.options(i) {
-            return false;
-        }
-    }
-    true
+    (0..n).all(|i| first.options(i) == second.options(i))
 }
 
 fn books_agree<P: RuleBook, Q: RuleBook>(first: &P, second: &Q) -> bool

@@ -14,11 +14,5 @@ pub fn counts_hold(items: usize, counts: &[u8]) -> bool
     requires { items ≤ length counts.now }
     ensures { result ≡ counts_right items counts.now }
 {
-    for i in 0..items {
-        let count = counts[i];
-        if count < 1 || count > 32 {
-            return false;
-        }
-    }
-    true
+    (0..items).all(|i| counts[i] >= 1 && counts[i] <= 32)
 }
