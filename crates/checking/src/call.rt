@@ -6,9 +6,10 @@ ghost use Rattle.levels.specs.Tests.{kept_meets_test, meets_test};
 ghost use Rattle.checking.specs.Tests.{FirstFailure, is_item};
 ghost use Rattle.checking.specs.Verdicts.{Judges, Points, RuledOut, due, option_due};
 
-use crate::conditions::{contains, meets_on};
+use crate::conditions::meets_on;
 use books::rule::RuleBook;
 use levels::level::Level;
+use levels::words::contains;
 use meaning::refusal::Refusal;
 
 // The lowest linked item on which option a of i fails the partner count c.
@@ -66,7 +67,7 @@ fn items_hold<B: RuleBook>(book: &B, set: &[u32], c: u8) -> bool
 fn admitted<B: RuleBook>(book: &B, level: u32, set: &[u32]) -> Result<Level, Refusal>
     ensures { result ≡ due (B.RuleBook.meaning book.now) level set.now }
 {
-    let level = Level::numbered(level)?;
+    let level = Level::try_from(level)?;
     if set.len() < book.items() {
         return Err(Refusal::MemoryShort);
     }

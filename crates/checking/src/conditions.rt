@@ -5,15 +5,8 @@ ghost use Rattle.levels.specs.Sets.{words};
 ghost use Rattle.levels.specs.Counts.{partners};
 ghost use Rattle.levels.specs.Tests.{on_test, partner_test, path_test, third_test, witness_test, witnessed_test};
 
-use bits::bit::has_bit;
 use books::rule::RuleBook;
-
-// Whether option a of item i is in the set.
-pub fn contains(set: &[u32], i: usize, a: usize) -> bool
-    ensures { result ≡ words set.now i a }
-{
-    i < set.len() && has_bit(set[i], a)
-}
+use levels::words::contains;
 
 fn is_partner<B: RuleBook>(book: &B, set: &[u32], i: usize, a: usize, j: usize, b: usize) -> bool
     ensures { result ≡ partner_test (B.RuleBook.meaning book.now) (words set.now) i a j b }
@@ -79,7 +72,7 @@ fn has_witness<B: RuleBook>(
 }
 
 // Whether k is a third item, linked with both i and j.
-fn is_third<B: RuleBook>(book: &B, i: usize, j: usize, k: usize) -> bool
+pub fn is_third<B: RuleBook>(book: &B, i: usize, j: usize, k: usize) -> bool
     ensures { result ≡ third_test (B.RuleBook.meaning book.now) i j k }
 {
     k != i && k != j && book.linked(i, k) && book.linked(j, k)

@@ -2,4 +2,4 @@
 #![tactic(auto)]
 
 pub mod call;
-mod conditions;
+pub mod conditions;

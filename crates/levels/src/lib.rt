@@ -3,3 +3,4 @@
 
 pub mod level;
 pub mod theory;
+pub mod words;

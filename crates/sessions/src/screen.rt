@@ -111,7 +111,7 @@ impl<B: RuleBook> Session<B> {
         if self.barred {
             return Err(Refusal::Barred);
         }
-        let level = Level::numbered(level)?;
+        let level = Level::try_from(level)?;
         if !has_room(&self.book, counts, options, items) {
             return Err(Refusal::NoRoom);
         }
