@@ -1,5 +1,5 @@
 -- Two admitted screenings of one level, after runs that strike the same options of books of one meaning, end alike.
-use Rattle.std.proofs.Common.{◌≡◌, ℕ, ◌+◌, ◌-◌, ◌*◌, ◌/◌, ◌%◌, ◌<◌, ◌≤◌, ◌⊎◌, List, get_or, Ok, sym, refl, ap, ◌∙◌, subst, inl, inr, arith}
+use Rattle.std.proofs.Common.{◌≡◌, ℕ, ◌+◌, ◌-◌, ◌*◌, ◌/◌, ◌%◌, ◌<◌, ◌≤◌, ◌⊎◌, List, get_or, Some, Ok, Err, sym, refl, ap, ◌∙◌, subst, inl, inr, arith}
 use mathlib.Core.Path.{fun_ext}
 use native.Mathlib.Decide.{ℕ_discrete, dec_lt}
 use Rattle.bits.proofs.Tests.{T_or_not}
@@ -18,8 +18,8 @@ use Rattle.runs.specs.Screening.{Room}
 use Rattle.runs.specs.Runs.{Did, Step, calls, tallied}
 use Rattle.runs.specs.Law.{After, Admitted, Succeeded, Alike, EqualLaw}
 use Rattle.runs.specs.declared.call.Call.TheVariants.{Screen}
-use Rattle.runs.specs.declared.call.Answer.{Answer}
-use Rattle.runs.specs.declared.call.Answer.TheVariants.{Screened, Refused}
+use Rattle.runs.specs.Answers.{Answer}
+use Rattle.runs.specs.declared.call.Outcome.{Outcome}
 use Rattle.runs.proofs.Tally.{after_shows}
 use Rattle.runs.proofs.Outcomes.{not_both, same_kept, same_item}
 use Rattle.runs.proofs.Endings.{Success, Failure, Ended, refused_not, admitted_ended}
@@ -77,18 +77,19 @@ module _ (l : Level) (m : Meaning) (p p' q q' : Room) (v v' w w' : State) (r s :
   both_succeed : Success l m p v r p' v' → Success l m q w s q' w' → Alike m r s p' q' v' w'
   both_succeed x y =
       let kept : v'.kept ≡ w'.kept =
-      same_kept (level_on l) m (unstruck m w.struck) v'.kept w'.kept x.3.only_options y.3.only_options
-      (keeps_there v'.kept x.3.keeps) y.3.keeps in
-      let counts : Counted m w'.kept p'.bytes = subst (λ (k : Set). Counted m k p'.bytes) kept x.3.bytes in
-      let n : x.0 ≡ y.0 = x.3.number_kept ∙ ap (size m) kept ∙ sym y.3.number_kept in
-      let c : x.1 ≡ y.1 =
-      x.3.number_crossed ∙ ap (λ (t : Set). size m (unstruck m t) - size m v'.kept) e
-      ∙ ap (λ (k : Set). size m (unstruck m w.struck) - size m k) kept ∙ sym y.3.number_crossed in
+      same_kept (level_on l) m (unstruck m w.struck) v'.kept w'.kept x.2.only_options y.2.only_options
+      (keeps_there v'.kept x.2.keeps) y.2.keeps in
+      let counts : Counted m w'.kept p'.bytes = subst (λ (k : Set). Counted m k p'.bytes) kept x.2.bytes in
+      let n : x.0.kept ≡ y.0.kept = x.2.number_kept ∙ ap (size m) kept ∙ sym y.2.number_kept in
+      let c : x.0.crossed ≡ y.0.crossed =
+      x.2.number_crossed ∙ ap (λ (t : Set). size m (unstruck m t) - size m v'.kept) e
+      ∙ ap (λ (k : Set). size m (unstruck m w.struck) - size m k) kept ∙ sym y.2.number_crossed in
+      let same : x.0 ≡ y.0 = λ i. record { kept = n i; crossed = c i } in
       record {
-        answers = x.2 ∙ ap (λ (z : ℕ). Screened z x.1) n ∙ ap (Screened y.0) c ∙ sym y.2;
-        bytes = same_bytes m w'.kept p'.bytes q'.bytes counts y.3.bytes;
+        answers = x.1 ∙ ap (λ (o : Outcome). Ok (Some o)) same ∙ sym y.1;
+        bytes = same_bytes m w'.kept p'.bytes q'.bytes counts y.2.bytes;
         kept = λ ok i a. ap (λ (k : Set). k i a) kept;
-        struck = λ ok i a. ap (λ (t : Set). t i a) (x.3.struck ∙ e ∙ sym y.3.struck);
+        struck = λ ok i a. ap (λ (t : Set). t i a) (x.2.struck ∙ e ∙ sym y.2.struck);
       }
 
   both_fail : Failure l m p v r p' v' → Failure l m q w s q' w' → Alike m r s p' q' v' w'
@@ -96,7 +97,7 @@ module _ (l : Level) (m : Meaning) (p p' q q' : Room) (v v' w w' : State) (r s :
       let i : x.0 ≡ y.0 = same_item (level_on l) m (unstruck m w.struck) x.0 y.0 (none_there x.0 x.2.none) y.2.none in
       let fails : Succeeded r → ⊥ = refused_not r (NothingConsistent x.0) x.1 in
       record {
-        answers = x.1 ∙ ap (λ (z : ℕ). Refused (NothingConsistent z)) i ∙ sym y.1;
+        answers = x.1 ∙ ap (λ (z : ℕ). Err (NothingConsistent z)) i ∙ sym y.1;
         bytes = λ k lt. x.2.zero_bytes k lt ∙ sym (y.2.zero_bytes k lt);
         kept = λ ok. absurd (fails ok);
         struck = λ ok. absurd (fails ok);
@@ -104,8 +105,8 @@ module _ (l : Level) (m : Meaning) (p p' q q' : Room) (v v' w w' : State) (r s :
 
   both_end : Ended l m p v r p' v' → Ended l m q w s q' w' → Alike m r s p' q' v' w'
   both_end (inl x) (inl y) = both_succeed x y
-  both_end (inl x) (inr y) = absurd (not_both (level_on l) m _ v'.kept y.0 (keeps_there v'.kept x.3.keeps) y.2.none)
-  both_end (inr x) (inl y) = absurd (not_both (level_on l) m _ w'.kept x.0 y.3.keeps (none_there x.0 x.2.none))
+  both_end (inl x) (inr y) = absurd (not_both (level_on l) m _ v'.kept y.0 (keeps_there v'.kept x.2.keeps) y.2.none)
+  both_end (inr x) (inl y) = absurd (not_both (level_on l) m _ w'.kept x.0 y.2.keeps (none_there x.0 x.2.none))
   both_end (inr x) (inr y) = both_fail x y
 
 -- the law over books of the meanings m and m₂

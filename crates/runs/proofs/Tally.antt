@@ -1,6 +1,6 @@
 -- After every run of calls from a newly opened session, the session is not barred and what is struck is the tally.
 -- Shows v t: the session v is not barred, and t is what is struck in it
-use Rattle.std.proofs.Common.{◌≡◌, ℕ, Bool, true, false, cond, not, ◌&&◌, eqb, ltb, leb, List, [], ◌∷◌, is_ok, Ok, Err, Result, refl, ap, ◌∙◌, subst, arith, le→leb, ltb→lt, leb→le, nltb→le}
+use Rattle.std.proofs.Common.{◌≡◌, ℕ, Bool, true, false, cond, not, ◌&&◌, eqb, ltb, leb, List, [], ◌∷◌, is_ok, Some, None, Ok, Err, Result, refl, ap, ◌∙◌, subst, arith, le→leb, ltb→lt, leb→le, nltb→le}
 use mathlib.Core.Bool.{not-not}
 use lib.Dec.{eqb_refl}
 use Rattle.bits.proofs.Tests.{and_i, not_i, same_T, to_true}
@@ -17,8 +17,7 @@ use Rattle.runs.specs.Runs.{Did, Step, Run, calls, tally, tallied_from, tallied}
 use Rattle.runs.specs.Law.{After}
 use Rattle.runs.specs.declared.call.Call.{Call}
 use Rattle.runs.specs.declared.call.Call.TheVariants.{Strike, Choose, Restore, Screen}
-use Rattle.runs.specs.declared.call.Answer.{Answer}
-use Rattle.runs.specs.declared.call.Answer.TheVariants.{Done, Screened, Refused}
+use Rattle.runs.specs.Answers.{Answer}
 
 abbrev pub Shows : State → Set → Type 0
 Shows v t = (v.barred ≡ false) × (v.struck ≡ t)
@@ -59,9 +58,9 @@ edit_shows m v after v' i a bad last b c e =
 
 ends_shows : (l : Level) (m : Meaning) (q q' : Room) (v v' : State) (r : Answer) → v.barred ≡ false
     → Ends l m q v r q' v' → Shows v' v.struck
-ends_shows l m q q' v v' Done b d = absurd d
-ends_shows l m q q' v v' (Screened n x) b d = (d.barred ∙ b, d.struck)
-ends_shows l m q q' v v' (Refused e) b d = shows_same v v' v.struck d.2.same (b, refl)
+ends_shows l m q q' v v' (Ok None) b d = absurd d
+ends_shows l m q q' v v' (Ok (Some o)) b d = (d.barred ∙ b, d.struck)
+ends_shows l m q q' v v' (Err e) b d = shows_same v v' v.struck d.2.same (b, refl)
 
 screen_shows : (due : Result Level Refusal) (m : Meaning) (q q' : Room) (v v' : State) (r : Answer) → v.barred ≡ false
     → Screens due m q v r q' v' → Shows v' v.struck

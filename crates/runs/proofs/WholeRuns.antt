@@ -3,7 +3,7 @@ use Rattle.std.proofs.Common.{◌≡◌, List, [], ◌∷◌, ◌++◌, refl, ap
 use Rattle.meaning.specs.Meaning.{Meaning}
 use Rattle.runs.specs.declared.call.Call.{Call}
 use Rattle.runs.specs.declared.call.Call.TheVariants.{Strike, Choose, Restore, Screen}
-use Rattle.runs.specs.declared.call.Answer.{Answer}
+use Rattle.runs.specs.Answers.{Answer}
 use Rattle.runs.specs.State.{State, opened}
 use Rattle.runs.specs.Screening.{Room}
 use Rattle.runs.specs.Runs.{Did, Step, Run, calls}

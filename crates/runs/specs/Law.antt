@@ -6,7 +6,7 @@
 -- Layout m f: f gives each item one option, and options of linked items stand together
 -- Settled: what the law says of one screening; Alike: what it says of two
 -- Holds: what it says of one session; LawfulRun: what it says of a whole run
-use Rattle.std.specs.Prelude.{◌≡◌, ℕ, ◌-◌, ◌*◌, ◌<◌, ◌≤◌, false, T, ◌⊎◌, ◌↔◌, List, [], ◌∷◌, ◌++◌, Ok, slice_index}
+use Rattle.std.specs.Prelude.{◌≡◌, ℕ, ◌-◌, ◌*◌, ◌<◌, ◌≤◌, false, T, ◌⊎◌, ◌↔◌, List, [], ◌∷◌, ◌++◌, Some, Ok, Err, slice_index}
 use Rattle.meaning.specs.Meaning.{Meaning}
 use Rattle.meaning.specs.declared.refusal.Refusal.TheVariants.{NothingConsistent}
 use Rattle.levels.specs.Sets.{Set, Inside}
@@ -16,8 +16,8 @@ use Rattle.levels.specs.Closed.{Consistent}
 use Rattle.levels.specs.declared.level.Level.{Level}
 use Rattle.runs.specs.declared.call.Call.{Call}
 use Rattle.runs.specs.declared.call.Call.TheVariants.{Strike, Choose, Restore, Screen}
-use Rattle.runs.specs.declared.call.Answer.{Answer}
-use Rattle.runs.specs.declared.call.Answer.TheVariants.{Screened, Refused}
+use Rattle.runs.specs.Answers.{Answer}
+use Rattle.runs.specs.declared.call.Outcome.{Outcome}
 use Rattle.runs.specs.State.{State, opened, unstruck}
 use Rattle.levels.specs.Counted.{Counted}
 use Rattle.levels.specs.Size.{size}
@@ -50,10 +50,10 @@ abbrev pub SomeConsistent : Condition → Meaning → Set → Type 0
 SomeConsistent C m u = (s : Set) × Inside m s u × Consistent C m s
 
 abbrev pub Succeeded : Answer → Type 0
-Succeeded r = (n : ℕ) × (x : ℕ) × (r ≡ Screened n x)
+Succeeded r = (o : Outcome) × (r ≡ Ok (Some o))
 
 abbrev pub SaysNone : Answer → Type 0
-SaysNone r = (i : ℕ) × (r ≡ Refused (NothingConsistent i))
+SaysNone r = (i : ℕ) × (r ≡ Err (NothingConsistent i))
 
 -- a screening at level l, after calls cs, that was answered r and left q' and v'
 pub record Settled (l : Level) (m : Meaning) (cs : List Call) (admitted : Type 0) (r : Answer) (q' : Room) (v' : State) : Type 0 where
@@ -61,8 +61,8 @@ pub record Settled (l : Level) (m : Meaning) (cs : List Call) (admitted : Type 0
   pub layouts : Succeeded r → (f : ℕ → ℕ) → Layout m f → ((i : ℕ) → i < m.items → tallied m cs i (f i) ≡ false) → (i : ℕ) → i < m.items → T (v'.kept i (f i))
   pub none : admitted → SaysNone r ↔ (SomeConsistent (level_on l) m (left m cs) → ⊥)
   pub either : admitted → Succeeded r ⊎ SaysNone r
-  pub numbers : (n x : ℕ) → r ≡ Screened n x → (n ≡ size m v'.kept) × (x ≡ size m (left m cs) - size m v'.kept) × Counted m v'.kept q'.bytes
-  pub item : (i : ℕ) → r ≡ Refused (NothingConsistent i) → FindsNone (level_on l) m (left m cs) i × ((k : ℕ) → k < 1024 * m.items → slice_index q'.bytes k ≡ 0)
+  pub numbers : (o : Outcome) → r ≡ Ok (Some o) → (o.kept ≡ size m v'.kept) × (o.crossed ≡ size m (left m cs) - size m v'.kept) × Counted m v'.kept q'.bytes
+  pub item : (i : ℕ) → r ≡ Err (NothingConsistent i) → FindsNone (level_on l) m (left m cs) i × ((k : ℕ) → k < 1024 * m.items → slice_index q'.bytes k ≡ 0)
 
 -- a session shows as struck what the tally says, and settles every screening
 pub record Holds (m : Meaning) (ss : List Step) (v : State) : Type 0 where

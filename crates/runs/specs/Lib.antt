@@ -1,3 +1,4 @@
+pub mod Answers
 pub mod State
 pub mod Edits
 pub mod Outcome

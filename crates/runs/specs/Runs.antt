@@ -3,21 +3,20 @@
 -- Step: one call of a run with what it was handed, said and left
 -- Run m v ss v': the steps ss lead from the session v to v'
 -- tallied: the plain tally, what is struck by the book's meaning and the calls' arguments alone
-use Rattle.std.specs.Prelude.{◌≡◌, cond, not, ◌&&◌, List, [], ◌∷◌, Ok, Err, Result}
+use Rattle.std.specs.Prelude.{◌≡◌, cond, not, ◌&&◌, List, [], ◌∷◌, None, Ok, Err, Result}
 use Rattle.meaning.specs.Meaning.{Meaning}
 use Rattle.meaning.specs.declared.refusal.Refusal.{Refusal}
 use Rattle.levels.specs.Sets.{Set}
 use Rattle.runs.specs.declared.call.Call.{Call}
 use Rattle.runs.specs.declared.call.Call.TheVariants.{Strike, Choose, Restore, Screen}
-use Rattle.runs.specs.declared.call.Answer.{Answer}
-use Rattle.runs.specs.declared.call.Answer.TheVariants.{Done, Refused}
+use Rattle.runs.specs.Answers.{Answer}
 use Rattle.runs.specs.State.{State, nothing, is_option}
 use Rattle.runs.specs.Edits.{edited, strike_due, restore_due, struck_by, chosen_by, restored_by, with_one, without_one, with_others}
 use Rattle.runs.specs.Screening.{Room, screen_due, Screens}
 
 abbrev pub said : Result (Unit {0}) Refusal → Answer
-said (Ok t) = Done
-said (Err e) = Refused e
+said (Ok t) = Ok None
+said (Err e) = Err e
 
 -- an edit: its answer, and the session after it; it touches nothing else
 abbrev pub Edits : Result (Unit {0}) Refusal → State → State → Room → Answer → Room → State → Type 0

@@ -5,15 +5,15 @@
 -- Succeeds: it keeps the largest closed set, answers its size and what it crossed out, and fills the count bytes
 -- Fails: it found nothing consistent, so the session stays, and the count bytes are 0
 -- Screens: a refused screening changes nothing; else it succeeds or says that nothing is consistent
-use Rattle.std.specs.Prelude.{◌≡◌, ℕ, ◌-◌, ◌*◌, ◌<◌, ◌≤◌, Bool, cond, ◌&&◌, T, List, length, Ok, Err, Result, ◌==◌, nat_le, nat_lt, slice_index}
+use Rattle.std.specs.Prelude.{◌≡◌, ℕ, ◌-◌, ◌*◌, ◌<◌, ◌≤◌, Bool, cond, ◌&&◌, T, List, length, Some, None, Ok, Err, Result, ◌==◌, nat_le, nat_lt, slice_index}
 use Rattle.meaning.specs.Meaning.{Meaning}
 use Rattle.meaning.specs.declared.refusal.Refusal.{Refusal}
 use Rattle.meaning.specs.declared.refusal.Refusal.TheVariants.{Barred, NoSuchLevel, NoRoom, NothingConsistent}
 use Rattle.levels.specs.Levels.{level_on}
 use Rattle.levels.specs.Counts.{level_numbered}
 use Rattle.levels.specs.declared.level.Level.{Level}
-use Rattle.runs.specs.declared.call.Answer.{Answer}
-use Rattle.runs.specs.declared.call.Answer.TheVariants.{Done, Screened, Refused}
+use Rattle.runs.specs.Answers.{Answer}
+use Rattle.runs.specs.declared.call.Outcome.{Outcome}
 use Rattle.runs.specs.State.{State, is_option, unstruck}
 use Rattle.levels.specs.Counted.{Counted}
 use Rattle.levels.specs.Size.{size}
@@ -45,13 +45,13 @@ pub record Tidy (m : Meaning) (q q' : Room) : Type 0 where
   pub same_length : length q'.bytes ≡ length q.bytes
   pub past : (k : ℕ) → 1024 * m.items ≤ k → slice_index q'.bytes k ≡ slice_index q.bytes k
 
-pub record Succeeds (l : Level) (m : Meaning) (q : Room) (v : State) (n x : ℕ) (q' : Room) (v' : State) : Type 0 where
+pub record Succeeds (l : Level) (m : Meaning) (q : Room) (v : State) (o : Outcome) (q' : Room) (v' : State) : Type 0 where
   pub keeps : Keeps (level_on l) m (unstruck m v.struck) v'.kept
   pub only_options : (i a : ℕ) → T (v'.kept i a) → T (is_option m i a)
   pub struck : v'.struck ≡ v.struck
   pub barred : v'.barred ≡ v.barred
-  pub number_kept : n ≡ size m v'.kept
-  pub number_crossed : x ≡ size m (unstruck m v.struck) - size m v'.kept
+  pub number_kept : o.kept ≡ size m v'.kept
+  pub number_crossed : o.crossed ≡ size m (unstruck m v.struck) - size m v'.kept
   pub bytes : Counted m v'.kept q'.bytes
   pub tidy : Tidy m q q'
 
@@ -63,10 +63,10 @@ pub record Fails (l : Level) (m : Meaning) (q : Room) (v : State) (i : ℕ) (q' 
 
 -- of a screening that neither 7, 5 nor 6 is due to
 abbrev pub Ends : Level → Meaning → Room → State → Answer → Room → State → Type 0
-Ends l m q v Done q' v' = ⊥
-Ends l m q v (Screened n x) q' v' = Succeeds l m q v n x q' v'
-Ends l m q v (Refused e) q' v' = (i : ℕ) × (e ≡ NothingConsistent i) × Fails l m q v i q' v'
+Ends l m q v (Ok None) q' v' = ⊥
+Ends l m q v (Ok (Some o)) q' v' = Succeeds l m q v o q' v'
+Ends l m q v (Err e) q' v' = (i : ℕ) × (e ≡ NothingConsistent i) × Fails l m q v i q' v'
 
 abbrev pub Screens : Result Level Refusal → Meaning → Room → State → Answer → Room → State → Type 0
-Screens (Err e) m q v r q' v' = (r ≡ Refused e) × (v' ≡ v) × (q' ≡ q)
+Screens (Err e) m q v r q' v' = (r ≡ Err e) × (v' ≡ v) × (q' ≡ q)
 Screens (Ok l) m q v r q' v' = Ends l m q v r q' v'

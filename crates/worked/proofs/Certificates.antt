@@ -20,8 +20,8 @@ use Rattle.levels.proofs.IsCount.{level_count}
 use Rattle.levels.proofs.Theories.{largest_from}
 use Rattle.runs.specs.declared.call.Call.{Call}
 use Rattle.runs.specs.declared.call.Call.TheVariants.{Screen}
-use Rattle.runs.specs.declared.call.Answer.{Answer}
-use Rattle.runs.specs.declared.call.Answer.TheVariants.{Screened}
+use Rattle.runs.specs.Answers.{Answer, screened}
+use Rattle.runs.specs.declared.call.Outcome.{Outcome}
 use Rattle.runs.specs.State.{State, is_option, unstruck}
 use Rattle.levels.specs.Size.{size}
 use Rattle.runs.specs.Outcome.{Keeps, FindsNone}
@@ -80,7 +80,7 @@ module _ (l : Level) (m : Meaning) (lawful : Lawful m) (cs : List Call) (xs : Li
     made_ended q r v ad d =
         admitted_ended l m q d.session d.left v level le (made_shows m cs (Screen level) q r v d).0 r ad d.did
 
-    pub keeps : (n x : ℕ) → T (keeps_exactly l m cs xs n x) → Leaves m cs level (λ r v. (r ≡ Screened n x) × (v.kept ≡ k))
+    pub keeps : (n x : ℕ) → T (keeps_exactly l m cs xs n x) → Leaves m cs level (λ r v. (r ≡ screened n x) × (v.kept ≡ k))
     keeps n x t q r v ad d =
         let t1 : T (every m.items (has_option m k) && has_sizes m cs xs n x) = and_r (leaves_largest l m cs xs) _ t in
         let t2 : T (has_sizes m cs xs n x) = and_r (every m.items (has_option m k)) _ t1 in
@@ -97,16 +97,16 @@ module _ (l : Level) (m : Meaning) (lawful : Lawful m) (cs : List Call) (xs : Li
           | inr f ↦ absurd (not_both (level_on l) m (unstruck m d.session.struck) k f.0 there f.2.none)
           | inl s ↦
               (let kept : v.kept ≡ k =
-              same_kept (level_on l) m (unstruck m d.session.struck) v.kept k s.3.only_options
-              (λ i a h. and_l (is_option m i a) _ (crossed_in (left m cs) xs i a h)) s.3.keeps there in
-              let n_is : s.0 ≡ n = s.3.number_kept ∙ ap (size m) kept ∙ en in
-              let x_is : s.1 ≡ x =
-              s.3.number_crossed ∙ ap (λ (u : Set). size m (unstruck m u) - size m v.kept) told
+              same_kept (level_on l) m (unstruck m d.session.struck) v.kept k s.2.only_options
+              (λ i a h. and_l (is_option m i a) _ (crossed_in (left m cs) xs i a h)) s.2.keeps there in
+              let n_is : s.0.kept ≡ n = s.2.number_kept ∙ ap (size m) kept ∙ en in
+              let x_is : s.0.crossed ≡ x =
+              s.2.number_crossed ∙ ap (λ (u : Set). size m (unstruck m u) - size m v.kept) told
               ∙ ap (λ (u : Set). size m (left m cs) - size m u) kept ∙ ex in
-              (s.2 ∙ ap (λ (y : ℕ). Screened y s.1) n_is ∙ ap (Screened n) x_is, kept))
+              (s.1 ∙ ap (λ (y : ℕ). screened y s.0.crossed) n_is ∙ ap (screened n) x_is, kept))
         ]
 
-    pub keeps_so_many : (n x : ℕ) → T (keeps_exactly l m cs xs n x) → Answers m cs level (Screened n x)
+    pub keeps_so_many : (n x : ℕ) → T (keeps_exactly l m cs xs n x) → Answers m cs level (screened n x)
     keeps_so_many n x t q r v ad d = (keeps n x t q r v ad d).0
 
     pub finds_none : (i : ℕ) → T (says_none l m cs xs i) → Answers m cs level (nothing_at i)
@@ -125,7 +125,7 @@ module _ (l : Level) (m : Meaning) (lawful : Lawful m) (cs : List Call) (xs : Li
         let there : FindsNone (level_on l) m (unstruck m d.session.struck) i =
         subst (λ (s : Set). FindsNone (level_on l) m (unstruck m s) i) (sym told) here in
         elim (made_ended q r v ad d) [
-          | inl s ↦ absurd (not_both (level_on l) m (unstruck m d.session.struck) v.kept i s.3.keeps there)
+          | inl s ↦ absurd (not_both (level_on l) m (unstruck m d.session.struck) v.kept i s.2.keeps there)
           | inr f ↦ f.1 ∙ ap nothing_at (same_item (level_on l) m (unstruck m d.session.struck) f.0 i f.2.none there)
         ]
 

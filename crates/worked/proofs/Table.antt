@@ -12,7 +12,7 @@ use Rattle.meaning.proofs.GridLaws.{grid_lawful}
 use Rattle.levels.specs.Sets.{Set}
 use Rattle.levels.specs.declared.level.Level.TheVariants.{Arc, RestrictedPath, MaxRestrictedPath}
 use Rattle.runs.specs.declared.call.Call.TheVariants.{Strike, Choose, Restore, Screen}
-use Rattle.runs.specs.declared.call.Answer.TheVariants.{Screened}
+use Rattle.runs.specs.Answers.{screened}
 use Rattle.runs.specs.Runs.{said}
 use Rattle.runs.specs.Edits.{strike_due}
 use Rattle.runs.specs.Law.{Layout}
@@ -69,7 +69,7 @@ all_by_arcs = (1, 2) ∷ (1, 3) ∷ (2, 2) ∷ (2, 3) ∷ (1, 0) ∷ (1, 1) ∷ 
 abbrev all_by_paths : List (ℕ × ℕ)
 all_by_paths = (0, 0) ∷ (1, 2) ∷ (1, 3) ∷ (2, 2) ∷ (2, 3) ∷ (1, 0) ∷ (1, 1) ∷ (2, 0) ∷ (2, 1) ∷ []
 
-one_crossed : Leaves j1 [] 2 (λ r v. (r ≡ Screened 9 1) × (v.kept ≡ rest j1 [] short_pocket))
+one_crossed : Leaves j1 [] 2 (λ r v. (r ≡ screened 9 1) × (v.kept ≡ rest j1 [] short_pocket))
 unfolding every some count start
 one_crossed = keeps MaxRestrictedPath j1 law1 [] short_pocket 2 refl 9 1 tt
 
