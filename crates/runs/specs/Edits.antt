@@ -2,7 +2,7 @@
 -- edit_due: the refusal due to an edit of option a of i, in its order: 7, 1, 2, then `last` where `bad` holds
 -- with_one, without_one: a set with the option a of i more, or less; with_others, without_others: with the other options of i
 -- struck_by, chosen_by, restored_by: the session after the edit, where it is not refused
-use Rattle.std.specs.Prelude.{ℕ, Bool, cond, not, ◌&&◌, ◌||◌, is_ok, Ok, Err, Result, ◌==◌, nat_le}
+use Rattle.std.specs.Prelude.{ℕ, Bool, if◌then◌else◌, not, ◌&&◌, ◌||◌, is_ok, Ok, Err, Result, ◌==◌, nat_le}
 use Rattle.meaning.specs.Meaning.{Meaning}
 use Rattle.meaning.specs.declared.refusal.Refusal.{Refusal}
 use Rattle.meaning.specs.declared.refusal.Refusal.TheVariants.{NoSuchItem, NoSuchOption, AlreadyStruck, NotStruck, Barred}
@@ -11,7 +11,11 @@ use Rattle.runs.specs.State.{State, is_option, unstruck}
 
 abbrev pub edit_due : Meaning → State → ℕ → ℕ → Bool → Refusal → Result (Unit {0}) Refusal
 edit_due m v i a bad last =
-    cond v.barred (Err Barred) (cond (nat_le m.items i) (Err NoSuchItem) (cond (nat_le (m.options i) a) (Err NoSuchOption) (cond bad (Err last) (Ok tt))))
+    if v.barred then Err Barred
+    else if nat_le m.items i then Err NoSuchItem
+    else if nat_le (m.options i) a then Err NoSuchOption
+    else if bad then Err last
+    else Ok tt
 
 abbrev pub is_this : ℕ → ℕ → ℕ → ℕ → Bool
 is_this i a j b = i == j && a == b
@@ -48,4 +52,4 @@ restore_due m v i a = edit_due m v i a (not (v.struck i a)) NotStruck
 
 -- the session after an edit that was answered r
 abbrev pub edited : Result (Unit {0}) Refusal → State → State → State
-edited r before after = cond (is_ok r) after before
+edited r before after = if is_ok r then after else before

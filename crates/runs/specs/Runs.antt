@@ -3,7 +3,7 @@
 -- Step: one call of a run with what it was handed, said and left
 -- Run m v ss v': the steps ss lead from the session v to v'
 -- tallied: the plain tally, what is struck by the book's meaning and the calls' arguments alone
-use Rattle.std.specs.Prelude.{◌≡◌, cond, not, ◌&&◌, List, [], ◌∷◌, None, Ok, Err, Result}
+use Rattle.std.specs.Prelude.{◌≡◌, if◌then◌else◌, not, ◌&&◌, List, [], ◌∷◌, None, Ok, Err, Result}
 use Rattle.meaning.specs.Meaning.{Meaning}
 use Rattle.meaning.specs.declared.refusal.Refusal.{Refusal}
 use Rattle.levels.specs.Sets.{Set}
@@ -43,9 +43,9 @@ calls [] = []
 calls (s ∷ ss) = s.call ∷ calls ss
 
 abbrev pub tally : Meaning → Call → Set → Set
-tally m (Strike i a) t = cond (is_option m i a && not (t i a)) (with_one t i a) t
-tally m (Choose i a) t = cond (is_option m i a && not (t i a)) (with_others m t i a) t
-tally m (Restore i a) t = cond (is_option m i a && t i a) (without_one t i a) t
+tally m (Strike i a) t = if is_option m i a && not (t i a) then with_one t i a else t
+tally m (Choose i a) t = if is_option m i a && not (t i a) then with_others m t i a else t
+tally m (Restore i a) t = if is_option m i a && t i a then without_one t i a else t
 tally m (Screen level) t = t
 
 abbrev pub tallied_from : Meaning → Set → List Call → Set

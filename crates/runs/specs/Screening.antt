@@ -5,7 +5,7 @@
 -- Succeeds: it keeps the largest closed set, answers its size and what it crossed out, and fills the count bytes
 -- Fails: it found nothing consistent, so the session stays, and the count bytes are 0
 -- Screens: a refused screening changes nothing; else it succeeds or says that nothing is consistent
-use Rattle.std.specs.Prelude.{◌≡◌, ℕ, ◌-◌, ◌*◌, ◌<◌, ◌≤◌, Bool, cond, ◌&&◌, T, List, length, Some, None, Ok, Err, Result, ◌==◌, nat_le, nat_lt, slice_index}
+use Rattle.std.specs.Prelude.{◌≡◌, ℕ, ◌-◌, ◌*◌, ◌<◌, ◌≤◌, Bool, if◌then◌else◌, ◌&&◌, T, List, length, Some, None, Ok, Err, Result, ◌==◌, nat_le, nat_lt, slice_index}
 use Rattle.meaning.specs.Meaning.{Meaning}
 use Rattle.meaning.specs.declared.refusal.Refusal.{Refusal}
 use Rattle.meaning.specs.declared.refusal.Refusal.TheVariants.{Barred, NoSuchLevel, NoRoom, NothingConsistent}
@@ -34,7 +34,10 @@ roomy m q =
 
 abbrev pub screen_due : Meaning → Bool → ℕ → Room → Result Level Refusal
 screen_due m barred level q =
-    cond barred (Err Barred) (cond (nat_lt 2 level) (Err NoSuchLevel) (cond (roomy m q) (level_numbered level) (Err NoRoom)))
+    if barred then Err Barred
+    else if nat_lt 2 level then Err NoSuchLevel
+    else if roomy m q then level_numbered level
+    else Err NoRoom
 
 -- what it leaves: the same lists emptied, and other bytes only among the first 1024 for each item
 pub record Tidy (m : Meaning) (q q' : Room) : Type 0 where

@@ -3,7 +3,7 @@
 -- nothing: the set without options; is_option: item i has the option a
 -- unstruck m s: all options of the book that are not in s
 -- opened m asked: the session over m that was asked for the edition `asked`; barred unless that is the book's own
-use Rattle.std.specs.Prelude.{ℕ, Bool, true, false, cond, not, ◌&&◌, ◌==◌, nat_lt}
+use Rattle.std.specs.Prelude.{ℕ, Bool, true, false, if◌then◌else◌, not, ◌&&◌, ◌==◌, nat_lt}
 use Rattle.meaning.specs.Meaning.{Meaning}
 use Rattle.meaning.specs.Limits.{within}
 use Rattle.levels.specs.Sets.{Set}
@@ -24,6 +24,6 @@ unstruck m s i a = is_option m i a && not (s i a)
 
 abbrev pub opened : Meaning → ℕ → State
 opened m asked =
-    cond (within asked 9999 && asked == m.edition)
-    (record { barred = false; struck = nothing; kept = unstruck m nothing })
-    (record { barred = true; struck = nothing; kept = nothing })
+    if within asked 9999 && asked == m.edition
+    then record { barred = false; struck = nothing; kept = unstruck m nothing }
+    else record { barred = true; struck = nothing; kept = nothing }

@@ -1,23 +1,24 @@
 -- What the words of options that an edit puts or takes make of a set.
-use Rattle.std.proofs.Common.{◌≡◌, ℕ, ◌^◌, Bool, true, false, cond, not, ◌&&◌, ◌||◌, eqb, leb, Ok, Err, Result, sym, refl, ap, ◌∙◌, arith}
+use Rattle.std.proofs.Common.{◌≡◌, ℕ, ◌<◌, Bool, true, false, cond, not, ◌&&◌, ◌||◌, eqb, ltb, leb, Ok, Err, Result, T, sym, refl, ap, ◌∙◌, arith}
 use mathlib.Core.Path.{fun_ext}
 use native.Mathlib.Decide.{ℕ_discrete}
 use Rattle.bits.specs.Bits.{bit}
 use Rattle.bits.proofs.Tests.{eqb_no}
-use Rattle.bits.proofs.Words.{bit_pow}
-use Rattle.meaning.specs.Meaning.{Meaning}
+use Rattle.std.proofs.Math.Dec.{nleb→lt}
+use Rattle.meaning.specs.Meaning.{Meaning, Lawful}
 use Rattle.meaning.specs.declared.refusal.Refusal.{Refusal}
-use Rattle.meaning.specs.declared.refusal.Refusal.TheVariants.{NoSuchItem, NoSuchOption, Barred}
+use Rattle.meaning.specs.declared.refusal.Refusal.TheVariants.{NoSuchItem, NoSuchOption, AlreadyStruck, NotStruck, Barred}
 use Rattle.levels.specs.Sets.{Set}
-use Rattle.runs.specs.State.{State, is_option}
-use Rattle.runs.specs.Edits.{with_one, without_one, with_others, without_others, is_this, is_other, edit_due, edited}
-use Rattle.sessions.specs.Edits.{option_due}
-use Rattle.sessions.specs.View.{with_word, without_word}
+use Rattle.runs.specs.State.{State, is_option, unstruck}
+use Rattle.runs.specs.Edits.{with_one, without_one, with_others, without_others, is_this, is_other, edit_due, edited, strike_due, restore_due, struck_by, chosen_by, restored_by}
+use Rattle.sessions.specs.Edits.{struck_word}
+use Rattle.sessions.specs.Words.{with_word, without_word}
+use Rattle.sessions.proofs.Masks.{one_bit}
 
--- the word of option a alone
-module _ (i a w : ℕ) (one : w ≡ 2 ^ a) where
+-- the word w of option a alone
+module _ (i a w : ℕ) (is : (b : ℕ) → bit w b ≡ eqb a b) where
   one_word : (j b : ℕ) → (eqb i j && bit w b) ≡ is_this i a j b
-  one_word j b = ap (λ (z : Bool). eqb i j && z) (ap (λ (z : ℕ). bit z b) one ∙ bit_pow a b)
+  one_word j b = ap (λ (z : Bool). eqb i j && z) (is b)
 
   pub with_one_word : (s : Set) → with_word s i w ≡ with_one s i a
   with_one_word s = fun_ext (λ j. fun_ext (λ b. ap (λ (z : Bool). s j b || z) (one_word j b)))
@@ -41,29 +42,43 @@ module _ (m : Meaning) (i a w : ℕ) (others : (b : ℕ) → bit w b ≡ (not (e
   pub without_others_word : (s : Set) → without_word s i w ≡ without_others m s i a
   without_others_word s = fun_ext (λ j. fun_ext (λ b. ap (λ (z : Bool). s j b && not z) (other_word j b)))
 
-pub same_state : (v : State) (s k : Set) → v.struck ≡ s → v.kept ≡ k → v ≡ record { barred = v.barred; struck = s; kept = k }
-same_state v s k e f =
-    ap (λ (x : Set). made x v.kept) e ∙ ap (λ (x : Set). made s x) f
-  where
-    made : Set → Set → State
-    made x y = record { barred = v.barred; struck = x; kept = y }
+pub same_state : (b : Bool) (s t k l : Set) → s ≡ t → k ≡ l → ◌≡◌ {A = State} (record { barred = b; struck = s; kept = k }) (record { barred = b; struck = t; kept = l })
+same_state b s t k l e f = λ i. record { barred = b; struck = e i; kept = f i }
 
--- the three refusals that come before the last, then r
-abbrev due_first : Bool → Bool → Bool → Result (Unit {0}) Refusal → Result (Unit {0}) Refusal
-due_first x y z r = cond x (Err Barred) (cond y (Err NoSuchItem) (cond z (Err NoSuchOption) r))
+ends : (x y z bad : Bool) (last : Refusal)
+    → cond x (Err Barred) (cond y (Err NoSuchItem) (cond z (Err NoSuchOption) (cond bad (Err last) (Ok (tt {0}))))) ≡ Ok (tt {0}) → T (not z)
+ends true y z bad last e = let f : ◌≡◌ {A = ℕ} 0 1 = cc in absurd (omega arith)
+ends false true z bad last e = let f : ◌≡◌ {A = ℕ} 0 1 = cc in absurd (omega arith)
+ends false false true bad last e = let f : ◌≡◌ {A = ℕ} 0 1 = cc in absurd (omega arith)
+ends false false false bad last e = tt
 
-due_here : (x y z : Bool) (r : Result (Unit {0}) Refusal) → due_first x y z (Ok tt) ≡ Ok tt → due_first x y z r ≡ r
-due_here true y z r e = let f : ◌≡◌ {A = ℕ} 0 1 = cc in absurd (omega arith)
-due_here false true z r e = let f : ◌≡◌ {A = ℕ} 0 1 = cc in absurd (omega arith)
-due_here false false true r e = let f : ◌≡◌ {A = ℕ} 0 1 = cc in absurd (omega arith)
-due_here false false false r e = refl
+-- an edit that is not refused is of an option that is there
+pub there : (m : Meaning) (v : State) (i a : ℕ) (bad : Bool) (last : Refusal) → edit_due m v i a bad last ≡ Ok tt → a < m.options i
+there m v i a bad last e = nleb→lt (m.options i) a (ends v.barred (leb m.items i) (leb (m.options i) a) bad last e)
 
--- where the option is there, an edit is refused only for the last reason
-pub edit_due_lem : (m : Meaning) (v : State) (i a : ℕ) (bad : Bool) (last : Refusal) → option_due m v.barred i a ≡ Ok tt → bad ≡ false
-    → Ok tt ≡ edit_due m v i a bad last
-edit_due_lem m v i a bad last there good =
-    let ends : Bool → Result (Unit {0}) Refusal = λ z. cond z (Err last) (Ok tt) in
-    sym (due_here v.barred (leb m.items i) (leb (m.options i) a) (ends bad) there ∙ ap ends good)
+-- two sessions are one after an edit where they are one after an edit that is not refused
+pub edited_same : (due : Result (Unit {0}) Refusal) (v x y : State) → (due ≡ Ok tt → x ≡ y) → edited due v x ≡ edited due v y
+edited_same (Ok tt) v x y h = h refl
+edited_same (Err e) v x y h = refl
 
-pub edit_did : (v v' after : State) (r : Result (Unit {0}) Refusal) → Ok tt ≡ r → v' ≡ after → v' ≡ edited r v after
-edit_did v v' after r due e = e ∙ ap (λ (x : Result (Unit {0}) Refusal). edited x v after) due
+-- the word of one option that is there strikes that option
+pub strikes_one : (m : Meaning) → Lawful m → (v : State) (i a w : ℕ) → ((b : ℕ) → bit w b ≡ (eqb a b && ltb b 32)) → strike_due m v i a ≡ Ok tt
+    → struck_word v i w ≡ struck_by v i a
+strikes_one m law v i a w is ok =
+    let few : a < 32 = let l = there m v i a (v.struck i a) AlreadyStruck ok in let most = law.options_most i in omega arith in
+    let one = λ (b : ℕ). is b ∙ one_bit a b few in
+    same_state v.barred _ _ _ _ (with_one_word i a w one v.struck) (without_one_word i a w one v.kept)
+
+-- the word of the other options strikes those
+pub strikes_others : (m : Meaning) (v : State) (i a w : ℕ) → ((b : ℕ) → bit w b ≡ (not (eqb a b) && is_option m i b))
+    → struck_word v i w ≡ chosen_by m v i a
+strikes_others m v i a w is = same_state v.barred _ _ _ _ (with_others_word m i a w is v.struck) (without_others_word m i a w is v.kept)
+
+-- the word of one option that is there restores that option
+pub restores_one : (m : Meaning) → Lawful m → (v : State) (i a w : ℕ) → ((b : ℕ) → bit w b ≡ (eqb a b && ltb b 32)) → restore_due m v i a ≡ Ok tt
+    → (s k : Set) → s ≡ without_word v.struck i w → k ≡ unstruck m s → ◌≡◌ {A = State} (record { barred = v.barred; struck = s; kept = k }) (edited (restore_due m v i a) v (restored_by m v i a))
+restores_one m law v i a w is ok s k e f =
+    let few : a < 32 = let l = there m v i a (not (v.struck i a)) NotStruck ok in let most = law.options_most i in omega arith in
+    let one = λ (b : ℕ). is b ∙ one_bit a b few in
+    let struck : s ≡ without_one v.struck i a = e ∙ without_one_word i a w one v.struck in
+    same_state v.barred _ _ _ _ struck (f ∙ ap (unstruck m) struck) ∙ ap (λ (r : Result (Unit {0}) Refusal). edited r v (restored_by m v i a)) (sym ok)

@@ -1,5 +1,5 @@
 -- The bits of a word of low bits, of `!`, and of one word without the bits of another.
-use Rattle.std.proofs.Common.{◌≡◌, ℕ, zero, suc, ◌-◌, ◌*◌, ◌/◌, ◌%◌, ◌^◌, ◌<◌, ◌≤◌, Bool, true, false, not, ◌&&◌, ltb, ◌≢◌, sym, ap, ◌∙◌, pow-suc, arith, ltb→lt, lt→ltb, pow_pos}
+use Rattle.std.proofs.Common.{◌≡◌, ℕ, zero, suc, ◌-◌, ◌*◌, ◌/◌, ◌%◌, ◌^◌, ◌<◌, ◌≤◌, Bool, true, false, not, ◌&&◌, eqb, ltb, ◌≢◌, sym, ap, ◌∙◌, pow-suc, arith, ltb→lt, lt→ltb, pow_pos}
 use mathlib.Core.Bool.{and-true}
 use native.Mathlib.Decide.{ℕ_discrete, dec_lt}
 use lib.Bits.{bit_and}
@@ -47,6 +47,14 @@ bit_low n b =
     let e : 2 ^ n - 1 ≡ 2 ^ n - 1 - 0 = omega arith in
     ap (λ (z : ℕ). bit z b) e
     ∙ (bit_not n 0 b (pow_pos n) ∙ (ap (λ (z : Bool). ltb b n && not z) (bit_none b) ∙ and-true (ltb b n)))
+
+-- a word has a bit for each number that is below 32
+pub one_bit : (a b : ℕ) → a < 32 → (eqb a b && ltb b 32) ≡ eqb a b
+one_bit a b h =
+    elim (ℕ_discrete a b) [
+      | yes e ↦ ap (λ (z : Bool). eqb a b && z) (ltb_yes b 32 (omega arith)) ∙ and-true (eqb a b)
+      | no n ↦ ap (λ (z : Bool). z && ltb b 32) (eqb_no a b n) ∙ sym (eqb_no a b n)
+    ]
 
 pub bit_minus : (x y b : ℕ) → x < 2 ^ 32 → y < 2 ^ 32 → bit (bit_and x (2 ^ 32 - 1 - y)) b ≡ (bit x b && not (bit y b))
 bit_minus x y b hx hy =

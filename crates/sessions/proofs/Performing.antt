@@ -1,7 +1,7 @@
 -- One call more makes one step more, and a whole run of a session with its book's edition is lawful.
 use Rattle.std.proofs.Common.{◌≡◌, ℕ, ◌≤◌, List, [], ◌∷◌, ◌++◌, sym, refl, ap, ◌∙◌, subst}
 use Rattle.meaning.specs.Meaning.{Meaning}
-use Rattle.runs.specs.declared.call.Answer.{Answer}
+use Rattle.runs.specs.Answers.{Answer}
 use Rattle.runs.specs.declared.call.Call.{Call}
 use Rattle.runs.specs.Law.{After, LawfulRun}
 use Rattle.runs.specs.Runs.{Did, Run, Step}

@@ -72,7 +72,7 @@ module _ (l : Level) (n : ℕ) (e : n ≡ count_of l) (m : Meaning) (lawful : La
       and_i (ltb i m.items) (ltb a (m.options i)) (lt→ltb i m.items h.0) (lt→ltb a (m.options i) h.1)
 
   pub succeeds : NoneEmpty m k → Counted m k q'.bytes → (number whole : ℕ) → number ≡ size m k → whole ≡ size m u
-      → (b : Bool) (old : Set) → Succeeds l m q (at b t old) number (whole - number) q' (at b t k)
+      → (b : Bool) (old : Set) → Succeeds l m q (at b t old) (record { kept = number; crossed = whole - number }) q' (at b t k)
   succeeds ne counted number whole en ew b old = record {
     keeps = record { largest = level_largest; none_empty = ne };
     only_options = only_options;

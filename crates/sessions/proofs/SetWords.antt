@@ -1,16 +1,19 @@
 -- What one changed word makes of the set.
-use Rattle.std.proofs.Common.{◌≡◌, ℕ, ◌-◌, ◌^◌, ◌<◌, ◌≤◌, Bool, false, not, ◌&&◌, ◌||◌, eqb, List, length, get_or, set, replicate, sym, ap, ◌∙◌, subst, arith, get_or-set_other, get_or-set_same}
+use Rattle.std.proofs.Common.{◌≡◌, ℕ, zero, suc, refl, ◌+◌, ◌-◌, ◌^◌, ◌<◌, ◌≤◌, Bool, false, not, ◌&&◌, ◌||◌, eqb, List, length, get_or, set, replicate, sym, ap, ◌∙◌, subst, arith, get_or-set_other, get_or-set_same}
 use mathlib.Core.Path.{fun_ext}
 use mathlib.Core.Bool.{or-false, and-true}
 use native.Mathlib.Decide.{ℕ_discrete, dec_lt}
 use lib.Bits.{bit_and, bit_or}
 use lib.ListN.{length-replicate, get_or-replicate, get_or-eq_default}
+use denote.Param.Members.{Mut}
+use Rattle.std.specs.Array.{IsFromFnResult, IsFromFnResultFrom}
+use Rattle.std.specs.Fn.{Called}
 use Rattle.bits.specs.Bits.{bit}
 use Rattle.bits.proofs.Tests.{eqb_yes, eqb_no}
 use Rattle.bits.proofs.Words.{bit_none, bit_of_or}
 use Rattle.levels.specs.Sets.{words}
 use Rattle.runs.specs.State.{nothing}
-use Rattle.sessions.specs.View.{with_word, without_word}
+use Rattle.sessions.specs.Words.{with_word, without_word}
 use Rattle.sessions.proofs.Masks.{bit_minus}
 
 -- the word at i becomes v, which combines each of its bits with one of w
@@ -44,3 +47,17 @@ words_none n =
           (let len : length (replicate {A = ℕ} n 0) ≤ i = rw length-replicate (omega arith) in
           ap (λ (z : ℕ). bit z a) (get_or-eq_default (replicate n 0) 0 len) ∙ bit_none a)
     ]))
+
+-- an array made of its indices has at each of them what the closure answers there
+module _ {F B : Type 0} (g : Mut F (ℕ × Unit {0}) B) (f : F) (P : ℕ → B → Type 0) (call : (x : ℕ) (y : B) (q : F) → Called g f (x, tt) y q → (q ≡ f) × P x y) where
+  made_from : (ys : List B) (i n : ℕ) (q : F) → q ≡ f → IsFromFnResultFrom g q ys i n → (k : ℕ) (d : B) → i ≤ k → k < i + n → P k (get_or ys k d)
+  made_from ys i zero q e h k d l u = absurd (omega arith)
+  made_from ys i (suc n) q e h k d l u =
+      let here = call i h.1 h.0 (subst (λ (p : F). Called g p (i, tt) h.1 h.0) e h.3) in
+      elim (ℕ_discrete i k) [
+        | yes z ↦ subst (λ (x : ℕ). P x (get_or ys x d)) z (subst (P i) (sym (h.2.1 d)) here.1)
+        | no o ↦ made_from ys (i + 1) n h.0 here.0 h.4 k d (omega arith) (omega arith)
+      ]
+
+  pub made_at : (ys : List B) (n : ℕ) → IsFromFnResult g f ys n → (k : ℕ) (d : B) → k < n → P k (get_or ys k d)
+  made_at ys n h k d l = made_from ys 0 n f refl h.each k d (omega arith) (omega arith)

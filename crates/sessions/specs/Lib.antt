@@ -1,3 +1,4 @@
+pub mod Words
 pub mod View
 pub mod Edits
 pub mod Hint

@@ -5,7 +5,7 @@
 -- where that edition is the book's own, the whole run is lawful
 use Rattle.std.specs.Prelude.{◌≡◌, ℕ, ◌≤◌, List, [], ◌∷◌}
 use Rattle.meaning.specs.Meaning.{Meaning}
-use Rattle.runs.specs.declared.call.Answer.{Answer}
+use Rattle.runs.specs.Answers.{Answer}
 use Rattle.runs.specs.declared.call.Call.{Call}
 use Rattle.runs.specs.Law.{LawfulRun}
 use Rattle.runs.specs.Runs.{Run, Step, calls}

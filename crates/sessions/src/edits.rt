@@ -1,39 +1,41 @@
 // Strike, choose and restore.
-ghost use Rattle.std.specs.Prelude.{◌≡◌, ℕ, ◌<◌, not, ◌&&◌, ◌==◌};
-ghost use Rattle.bits.specs.Bits.{bit};
-ghost use Rattle.runs.specs.State.{is_option};
+ghost use Rattle.std.specs.Prelude.{◌≡◌};
 ghost use Rattle.runs.specs.Edits.{restore_due, strike_due};
-ghost use Rattle.sessions.specs.Edits.{after_choose, after_restore, after_strike, option_due};
+ghost use Rattle.sessions.specs.Edits.{after_choose, after_restore, after_strike, after_striking, option_due};
 ghost use Rattle.sessions.specs.View.{view};
 
 use crate::session::Session;
-use crate::start::all_options;
-use bits::bit::has_bit;
+use crate::start::{one_option, other_options};
 use books::rule::RuleBook;
+use levels::words::contains;
 use meaning::refusal::Refusal;
 
-// The options of item i but a.
-fn other_options<B: RuleBook>(book: &B, i: usize, a: usize) -> u32
-    requires { a < 32 }
-    ensures { (b : ℕ) → bit result b ≡ (not (a == b) && is_option (B.RuleBook.meaning book.now) i b) }
+// Item i has the option a.
+fn check_option<B: RuleBook>(book: &B, i: usize, a: usize) -> Result<(), Refusal>
+    ensures { result ≡ option_due (B.RuleBook.meaning book.now) i a }
 {
-    all_options(book, i) & !(1 << a)
+    if i >= book.items() {
+        return Err(Refusal::NoSuchItem);
+    }
+    if a >= book.options(i) {
+        return Err(Refusal::NoSuchOption);
+    }
+    Ok(())
 }
 
 impl<B: RuleBook> Session<B> {
-    // The session is not barred, and item i has the option a.
-    fn check_option(&self, i: usize, a: usize) -> Result<(), Refusal>
-        ensures { result ≡ option_due (B.RuleBook.meaning self.now.book) self.now.barred i a }
+    // Strikes these options of item i, if it has the option a and that is not struck.
+    fn strike_options(&mut self, i: usize, a: usize, options: u32) -> Result<(), Refusal>
+        ensures said { result ≡ strike_due (B.RuleBook.meaning self.old.book) (view self.old) i a }
+        ensures did { view self.new ≡ after_striking (B.RuleBook.meaning self.old.book) (view self.old) i a options }
+        ensures same { self.new.book ≡ self.old.book }
     {
-        if self.barred {
-            return Err(Refusal::Barred);
+        let marks = self.marks.as_mut().ok_or(Refusal::Barred)?;
+        check_option(&self.book, i, a)?;
+        if contains(&marks.struck, i, a) {
+            return Err(Refusal::AlreadyStruck);
         }
-        if i >= self.book.items() {
-            return Err(Refusal::NoSuchItem);
-        }
-        if a >= self.book.options(i) {
-            return Err(Refusal::NoSuchOption);
-        }
+        marks.strike(i, options);
         Ok(())
     }
 
@@ -43,12 +45,7 @@ impl<B: RuleBook> Session<B> {
         ensures did { view self.new ≡ after_strike (B.RuleBook.meaning self.old.book) (view self.old) i a }
         ensures same { self.new.book ≡ self.old.book }
     {
-        self.check_option(i, a)?;
-        if has_bit(self.marks.struck[i], a) {
-            return Err(Refusal::AlreadyStruck);
-        }
-        self.marks.strike(i, 1 << a);
-        Ok(())
+        self.strike_options(i, a, one_option(a))
     }
 
     // Chooses the option a of item i: strikes the item's others.
@@ -57,13 +54,8 @@ impl<B: RuleBook> Session<B> {
         ensures did { view self.new ≡ after_choose (B.RuleBook.meaning self.old.book) (view self.old) i a }
         ensures same { self.new.book ≡ self.old.book }
     {
-        self.check_option(i, a)?;
-        if has_bit(self.marks.struck[i], a) {
-            return Err(Refusal::AlreadyStruck);
-        }
         let others = other_options(&self.book, i, a);
-        self.marks.strike(i, others);
-        Ok(())
+        self.strike_options(i, a, others)
     }
 
     // Restores the option a of item i; then all options that are not struck are kept.
@@ -72,11 +64,12 @@ impl<B: RuleBook> Session<B> {
         ensures did { view self.new ≡ after_restore (B.RuleBook.meaning self.old.book) (view self.old) i a }
         ensures same { self.new.book ≡ self.old.book }
     {
-        self.check_option(i, a)?;
-        if !has_bit(self.marks.struck[i], a) {
+        let marks = self.marks.as_mut().ok_or(Refusal::Barred)?;
+        check_option(&self.book, i, a)?;
+        if !contains(&marks.struck, i, a) {
             return Err(Refusal::NotStruck);
         }
-        self.marks.restore(&self.book, i, 1 << a);
+        marks.restore(&self.book, i, one_option(a));
         Ok(())
     }
 }

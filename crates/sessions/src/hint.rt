@@ -1,37 +1,35 @@
 // The hint: the item at which to decide next.
+ghost use Rattle.std.specs.Prelude.{Some};
 ghost use Rattle.runs.specs.Hint.{Hints};
 ghost use Rattle.sessions.specs.Hint.{HintSays};
-ghost use Rattle.sessions.specs.View.{view};
+ghost use Rattle.sessions.specs.View.{shown, view};
 
+use crate::marks::Marks;
 use crate::session::Session;
 use crate::sizes::count_options;
 use books::rule::RuleBook;
 use meaning::refusal::Refusal;
 
-impl<B: RuleBook> Session<B> {
-    // The item with the fewest kept options among those with two or more, the lowest on ties.
-    fn fewest_kept(&self) -> Option<usize>
-        ensures { Hints (B.RuleBook.meaning self.now.book) (view self.now) result }
-    {
-        let mut best: Option<usize> = None;
-        let mut fewest: usize = 33;
-        for i in 0..self.book.items() {
-            let n = count_options(&self.book, &self.marks.kept, i);
-            if n >= 2 && n < fewest {
-                best = Some(i);
-                fewest = n;
-            }
+// The item with the fewest kept options among those with two or more, the lowest on ties.
+fn fewest_kept<B: RuleBook>(book: &B, marks: &Marks) -> Option<usize>
+    ensures { Hints (B.RuleBook.meaning book.now) (shown (Some marks.now)) result }
+{
+    let mut best = None;
+    for i in 0..book.items() {
+        let number = count_options(book, &marks.kept, i);
+        if number >= 2 && best.is_none_or(|(_, fewest)| number < fewest) {
+            best = Some((i, number));
         }
-        best
     }
+    best.map(|(item, _)| item)
+}
 
+impl<B: RuleBook> Session<B> {
     // The item at which a designer should decide next, if any is still open.
     pub fn hint(&self) -> Result<Option<usize>, Refusal>
         ensures { HintSays (B.RuleBook.meaning self.now.book) (view self.now) result }
     {
-        if self.barred {
-            return Err(Refusal::Barred);
-        }
-        Ok(self.fewest_kept())
+        let marks = self.marks.as_ref().ok_or(Refusal::Barred)?;
+        Ok(fewest_kept(&self.book, marks))
     }
 }

@@ -1,8 +1,8 @@
 // The words of options that a session keeps: which are struck and which are kept.
 ghost use Rattle.std.specs.Prelude.{◌≡◌, ◌<◌};
 ghost use Rattle.levels.specs.Sets.{words};
-ghost use Rattle.runs.specs.State.{unstruck};
-ghost use Rattle.sessions.specs.View.{with_word, without_word};
+ghost use Rattle.runs.specs.State.{nothing, unstruck};
+ghost use Rattle.sessions.specs.Words.{with_word, without_word};
 
 use crate::start::unstruck_words;
 use books::rule::RuleBook;
@@ -30,6 +30,18 @@ fn take(set: &mut [u32; 32], i: usize, options: u32)
 }
 
 impl Marks {
+    // Nothing is struck, and all options are kept.
+    pub(crate) fn new<B: RuleBook>(book: &B) -> Marks
+        ensures struck { words result.struck ≡ nothing }
+        ensures kept { words result.kept ≡ unstruck (B.RuleBook.meaning book.now) nothing }
+    {
+        let struck = [0; 32];
+        Marks {
+            struck,
+            kept: unstruck_words(book, &struck),
+        }
+    }
+
     // These options of item i are struck, and kept no more.
     pub(crate) fn strike(&mut self, i: usize, options: u32)
         requires { i < 32 }

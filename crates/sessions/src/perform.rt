@@ -1,6 +1,6 @@
 // A list of calls, performed one after the other on a session newly opened.
-ghost use Rattle.std.specs.Prelude.{◌≡◌, ◌<◌, length, IfOk, slice_index_or};
-ghost use Rattle.runs.specs.Runs.{Did, said};
+ghost use Rattle.std.specs.Prelude.{◌≡◌, IfOk};
+ghost use Rattle.runs.specs.Runs.{Did};
 ghost use Rattle.sessions.specs.Performed.{Performs};
 ghost use Rattle.sessions.specs.Said.{room};
 ghost use Rattle.sessions.specs.View.{view};
@@ -9,7 +9,6 @@ use crate::session::Session;
 use books::rule::RuleBook;
 use lists::choice::Choice;
 use lists::waiting::WaitingList;
-use meaning::refusal::Refusal;
 use runs::call::{Answer, Call};
 use std::alloc::{AllocError, Global};
 
@@ -18,16 +17,6 @@ use std::alloc::{AllocError, Global};
 pub struct Performed<B> {
     pub session: Session<B>,
     pub answers: Vec<Answer>,
-}
-
-// What an edit's result says.
-fn answer_of(edit: Result<(), Refusal>) -> Answer
-    ensures { result ≡ said edit }
-{
-    match edit {
-        Ok(()) => Answer::Done,
-        Err(refusal) => Answer::Refused { refusal },
-    }
 }
 
 impl<B: RuleBook> Session<B> {
@@ -43,32 +32,21 @@ impl<B: RuleBook> Session<B> {
         ensures same { self.new.book ≡ self.old.book }
     {
         match call {
-            Call::Strike { item, option } => answer_of(self.strike(item, option)),
-            Call::Choose { item, option } => answer_of(self.choose(item, option)),
-            Call::Restore { item, option } => answer_of(self.restore(item, option)),
-            Call::Screen { level } => match self.screen(level, counts, options, items) {
-                Ok(outcome) => Answer::Screened {
-                    kept: outcome.kept,
-                    crossed: outcome.crossed,
-                },
-                Err(refusal) => Answer::Refused { refusal },
-            },
+            Call::Strike { item, option } => self.strike(item, option)?,
+            Call::Choose { item, option } => self.choose(item, option)?,
+            Call::Restore { item, option } => self.restore(item, option)?,
+            Call::Screen { level } => {
+                return Ok(Some(self.screen(level, counts, options, items)?));
+            }
         }
+        Ok(None)
     }
-}
-
-// The call at place i; inner, since it asks that there is one.
-fn call_at(calls: &[Call], i: usize) -> Call
-    requires { i < length calls.now }
-    ensures { result ≡ slice_index_or calls.now i result }
-{
-    calls[i]
 }
 
 // Opens a session, makes the calls one after the other, and answers what each was answered. Every screening among them
 // is handed the same buffer and lists.
 pub fn perform<B: RuleBook + Drop, O: WaitingList<Choice>, I: WaitingList<u8>>(
-    heap: Global,
+    alloc: Global,
     book: B,
     asked: u32,
     calls: &[Call],
@@ -79,9 +57,9 @@ pub fn perform<B: RuleBook + Drop, O: WaitingList<Choice>, I: WaitingList<u8>>(
     ensures { IfOk result (λ p. (p.session.book ≡ book) × Performs (B.RuleBook.meaning book) asked calls.now p.answers.items (room counts.old (O.WaitingList.waits options.old) (O.WaitingList.room options.old) (I.WaitingList.waits items.old) (I.WaitingList.room items.old)) (view p.session) (room counts.new (O.WaitingList.waits options.new) (O.WaitingList.room options.new) (I.WaitingList.waits items.new) (I.WaitingList.room items.new))) }
 {
     let mut session = Session::open(book, asked);
-    let mut answers = Vec::new(heap);
-    for i in 0..calls.len() {
-        let answer = session.make(call_at(calls, i), counts, options, items);
+    let mut answers = Vec::new(alloc);
+    for call in calls {
+        let answer = session.make(*call, counts, options, items);
         answers.push(answer)?;
     }
     Ok(Performed { session, answers })

@@ -10,8 +10,8 @@ ghost use Rattle.runs.specs.State.{is_option};
 ghost use Rattle.sessions.specs.Said.{Early, Settles, answered, room};
 ghost use Rattle.sessions.specs.View.{view};
 
-use crate::outcome::{Outcome, Settled};
 use crate::session::Session;
+use crate::settled::Settled;
 use crate::sizes::{lowest_empty, set_size};
 use crate::start::unstruck_words;
 use books::rule::RuleBook;
@@ -20,6 +20,7 @@ use lists::choice::Choice;
 use lists::waiting::WaitingList;
 use meaning::refusal::Refusal;
 use propagation::propagate::propagate;
+use runs::call::Outcome;
 
 // How many options the book has.
 fn book_size<B: RuleBook>(book: &B) -> usize
@@ -52,9 +53,7 @@ fn clear(counts: &mut [u8], n: usize)
     ensures zero { (k : ℕ) → k < 1024 * n → slice_index counts.new k ≡ 0 }
     ensures past { (k : ℕ) → 1024 * n ≤ k → slice_index counts.new k ≡ slice_index counts.old k }
 {
-    for k in 0..1024 * n {
-        counts[k] = 0;
-    }
+    counts[..1024 * n].fill(0);
 }
 
 // Screens the options that are not struck.
@@ -108,27 +107,14 @@ impl<B: RuleBook> Session<B> {
         ensures book { self.new.book ≡ self.old.book }
         ensures early { Early result ((options.new ≡ options.old) × (items.new ≡ items.old)) }
     {
-        if self.barred {
-            return Err(Refusal::Barred);
-        }
+        let marks = self.marks.as_mut().ok_or(Refusal::Barred)?;
         let level = Level::try_from(level)?;
         if !has_room(&self.book, counts, options, items) {
             return Err(Refusal::NoRoom);
         }
-        match settle(
-            &self.book,
-            level,
-            &self.marks.struck,
-            counts,
-            options,
-            items,
-        ) {
-            Ok(settled) => {
-                let kept_words = settled.words;
-                self.marks.kept = kept_words;
-                Ok(settled.outcome)
-            }
-            Err(refusal) => Err(refusal),
-        }
+        let settled = settle(&self.book, level, &marks.struck, counts, options, items)?;
+        let kept_words = settled.words;
+        marks.kept = kept_words;
+        Ok(settled.outcome)
     }
 }

@@ -1,6 +1,6 @@
 // How many options a set has, and where it has none.
-ghost use Rattle.std.specs.Prelude.{◌≡◌, ◌<◌, ◌≤◌};
-ghost use Rattle.bits.specs.Below.{count};
+ghost use Rattle.std.specs.Prelude.{◌≡◌, ◌≤◌, not};
+ghost use Rattle.bits.specs.Below.{count, some};
 ghost use Rattle.levels.specs.Sets.{words};
 ghost use Rattle.levels.specs.Size.{size};
 ghost use Rattle.sessions.specs.Empty.{Empties};
@@ -10,7 +10,6 @@ use books::rule::RuleBook;
 
 // How many options of item i the set has.
 pub(crate) fn count_options<B: RuleBook>(book: &B, set: &[u32; 32], i: usize) -> usize
-    requires { i < 32 }
     ensures value { result ≡ count ((B.RuleBook.meaning book.now).options i) (words set.now i) }
     ensures most { result ≤ 32 }
 {
@@ -28,14 +27,16 @@ pub fn set_size<B: RuleBook>(book: &B, set: &[u32; 32]) -> usize
     total
 }
 
+// Whether the set has no option of item i.
+fn is_empty<B: RuleBook>(book: &B, set: &[u32; 32], i: usize) -> bool
+    ensures { result ≡ not (some ((B.RuleBook.meaning book.now).options i) (words set.now i)) }
+{
+    item_options(book, set, i) == 0
+}
+
 // The lowest item of which the set has no option.
 pub fn lowest_empty<B: RuleBook>(book: &B, set: &[u32; 32]) -> Option<usize>
     ensures { Empties (B.RuleBook.meaning book.now) (words set.now) result }
 {
-    for i in 0..book.items() {
-        if item_options(book, set, i) == 0 {
-            return Some(i);
-        }
-    }
-    None
+    (0..book.items()).find(|i| is_empty(book, set, *i))
 }

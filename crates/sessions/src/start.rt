@@ -1,10 +1,11 @@
 // The options of a book as words.
-ghost use Rattle.std.specs.Prelude.{◌≡◌, ℕ, ◌<◌, ◌≤◌, ◌&&◌, nat_lt};
+ghost use Rattle.std.specs.Prelude.{◌≡◌, ℕ, ◌<◌, ◌≤◌, not, ◌&&◌, nat_lt, ◌==◌};
 ghost use Rattle.bits.specs.Bits.{bit};
 ghost use Rattle.levels.specs.Sets.{words};
 ghost use Rattle.runs.specs.State.{is_option, unstruck};
 
 use books::rule::RuleBook;
+use std::array;
 
 // The word whose lowest n bits are set.
 fn low_bits(n: usize) -> u32
@@ -14,6 +15,13 @@ fn low_bits(n: usize) -> u32
     ((1u64 << n) - 1) as u32
 }
 
+// The word of option a alone; 0 where a word has no such bit.
+pub(crate) fn one_option(a: usize) -> u32
+    ensures { (b : ℕ) → bit result b ≡ (a == b && nat_lt b 32) }
+{
+    if a < 32 { 1 << a } else { 0 }
+}
+
 // All options of item i; none where there is no such item.
 pub fn all_options<B: RuleBook>(book: &B, i: usize) -> u32
     ensures { (a : ℕ) → bit result a ≡ is_option (B.RuleBook.meaning book.now) i a }
@@ -21,21 +29,34 @@ pub fn all_options<B: RuleBook>(book: &B, i: usize) -> u32
     low_bits(book.options(i))
 }
 
-// The options of item i that the set has.
+// The options of item i but a.
+pub(crate) fn other_options<B: RuleBook>(book: &B, i: usize, a: usize) -> u32
+    ensures { (b : ℕ) → bit result b ≡ (not (a == b) && is_option (B.RuleBook.meaning book.now) i b) }
+{
+    all_options(book, i) & !one_option(a)
+}
+
+// The options of item i that the set has; none where there is no such item.
 pub(crate) fn item_options<B: RuleBook>(book: &B, set: &[u32; 32], i: usize) -> u32
-    requires { i < 32 }
     ensures { (a : ℕ) → bit result a ≡ (is_option (B.RuleBook.meaning book.now) i a && words set.now i a) }
 {
+    if i >= 32 {
+        return 0;
+    }
     all_options(book, i) & set[i]
+}
+
+// The options of item i that are not struck.
+fn unstruck_options<B: RuleBook>(book: &B, struck: &[u32; 32], i: usize) -> u32
+    requires { i < 32 }
+    ensures { (a : ℕ) → bit result a ≡ unstruck (B.RuleBook.meaning book.now) (words struck.now) i a }
+{
+    all_options(book, i) & !struck[i]
 }
 
 // All options that are not struck.
 pub fn unstruck_words<B: RuleBook>(book: &B, struck: &[u32; 32]) -> [u32; 32]
     ensures { words result ≡ unstruck (B.RuleBook.meaning book.now) (words struck.now) }
 {
-    let mut left = [0; 32];
-    for i in 0..32usize {
-        left[i] = all_options(book, i) & !struck[i];
-    }
-    left
+    array::from_fn(|i| unstruck_options(book, struck, i))
 }

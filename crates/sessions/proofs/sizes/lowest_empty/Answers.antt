@@ -1,9 +1,12 @@
-use Rattle.std.proofs.Common.{below_more}
+use Rattle.std.proofs.Common.{true, false, rules}
+use Rattle.std.proofs.lemmas.Iterator.{first_from_Range}
 use Rattle.levels.specs.Sets.{words}
-use Rattle.sessions.proofs.BookWords.{word_has}
+use Rattle.sessions.proofs.BookWords.{Empty, empties}
 use Rattle.sessions.proofs.sizes.lowest_empty.Goals as goal
 
-pub loop-i-preserved : goal.loop-i-preserved
-loop-i-preserved g c =
-    below_more _ _ c.loop-i.invariant
-    (word_has (g.B.RuleBook.meaning c.args.book.now) (words c.args.set.now) c.loop-i.i c.item_options.result c.item_options.ensures c.if-item_options-eq0.false)
+pub returns : goal.returns
+returns g c =
+    let m = g.B.RuleBook.meaning c.args.book.now in
+    let s = words c.args.set.now in
+    empties m s c.items.result c.items.ensures c.find.result
+    (first_from_Range _ _ _ c.find.result (λ i. Empty m s i true) (λ i. Empty m s i false) c.find.ensures.ran (λ i q k. search rules) (λ i q k. search rules))

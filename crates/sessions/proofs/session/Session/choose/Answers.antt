@@ -1,20 +1,12 @@
-use Rattle.std.proofs.Common.{ℕ, refl, ◌∙◌, rules}
-use Rattle.meaning.specs.declared.refusal.Refusal.TheVariants.{AlreadyStruck}
-use Rattle.runs.specs.Edits.{chosen_by}
+use Rattle.std.proofs.Common.{◌∙◌}
+use Rattle.runs.specs.Edits.{strike_due}
 use Rattle.sessions.specs.View.{view}
-use Rattle.sessions.proofs.EditLaws.{edit_did, edit_due_lem, same_state, with_others_word, without_others_word}
+use Rattle.sessions.proofs.EditLaws.{edited_same, strikes_others}
 use Rattle.sessions.proofs.session.Session.choose.Goals as goal
 
-pub returns : goal.returns
-returns g c =
+pub returns-clause-did : goal.returns-clause-did
+returns-clause-did g c =
     let m = g.B.RuleBook.meaning c.args.self.now.book in
     let v = view c.args.self.now in
-    let i : ℕ = c.args.i in
-    let a : ℕ = c.args.a in
-    let w : ℕ = c.other_options-others.result in
-    let due = edit_due_lem m v i a (v.struck i a) AlreadyStruck (search rules) (search rules) in
-    record {
-      said = due;
-      did = edit_did v _ (chosen_by m v i a) _ due (same_state _ _ _ (c.strike.ensures.struck ∙ with_others_word m i a w c.other_options-others.ensures v.struck) (c.strike.ensures.kept ∙ without_others_word m i a w c.other_options-others.ensures v.kept));
-      same = refl;
-    }
+    c.strike_options.ensures.did
+    ∙ edited_same (strike_due m v c.args.i c.args.a) v _ _ (λ ok. strikes_others m v c.args.i c.args.a c.other_options-others.result c.other_options-others.ensures)
