@@ -1,5 +1,5 @@
 // A designer's sessions: a list of calls performed at once, and calls made one by one.
-use bits::bit::has_bit;
+use crate::verdicts::show_options;
 use books::rule::RuleBook;
 use lists::choice::Choice;
 use lists::newest::Newest;
@@ -12,15 +12,6 @@ use std::io;
 
 const NO_CHOICE: Choice = Choice { item: 0, option: 0 };
 
-fn show_call(rt: &impl Print, call: Call) -> io::Result<()> {
-    match call {
-        Call::Strike { item, option } => print!(rt; "  strike option {option} of item {item}: "),
-        Call::Choose { item, option } => print!(rt; "  choose option {option} of item {item}: "),
-        Call::Restore { item, option } => print!(rt; "  restore option {option} of item {item}: "),
-        Call::Screen { level } => print!(rt; "  screen at level {level}: "),
-    }
-}
-
 fn show_refusal(rt: &impl Print, refusal: Refusal) -> io::Result<()> {
     match refusal {
         Refusal::NothingConsistent { item } => println!(rt;
@@ -32,25 +23,17 @@ fn show_refusal(rt: &impl Print, refusal: Refusal) -> io::Result<()> {
 
 fn show_answer(rt: &impl Print, answer: Answer) -> io::Result<()> {
     match answer {
-        Answer::Done => println!(rt; "done"),
-        Answer::Screened { kept, crossed } => println!(rt;
-            "keeps {kept} options, crosses out {crossed}"
-        ),
-        Answer::Refused { refusal } => show_refusal(rt, refusal),
+        Ok(None) => println!(rt; "done"),
+        Ok(Some(outcome)) => println!(rt; "{outcome}"),
+        Err(refusal) => show_refusal(rt, refusal),
     }
 }
 
 // Prints the options of each item that the session keeps.
 fn show_kept<B: RuleBook>(rt: &impl Print, session: &Session<B>, items: usize) -> io::Result<()> {
     for i in 0..items {
-        let word = session.kept(i);
         print!(rt; "    item {i} keeps")?;
-        for a in 0..32usize {
-            if has_bit(word, a) {
-                print!(rt; " {a}")?;
-            }
-        }
-        println!(rt; "")?;
+        show_options(rt, session.kept(i))?;
     }
     Ok(())
 }
@@ -73,7 +56,7 @@ pub fn show_calls<B: RuleBook + Drop>(rt: &HostRuntime, book: B, calls: &[Call])
         &mut waiting,
     )?;
     for (call, answer) in calls.iter().zip(performed.answers.iter()) {
-        show_call(rt, *call)?;
+        print!(rt; "  {call}: ")?;
         show_answer(rt, *answer)?;
     }
     show_kept(rt, &performed.session, items)?;

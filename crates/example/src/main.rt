@@ -26,14 +26,14 @@ fn check_junction(rt: &impl Print) -> io::Result<()> {
 
     println!(rt; "A spreadsheet script left every option:")?;
     let left = [0b11u32, 0b1111, 0b1111];
-    show_set(rt, &book, &left)?;
+    show_set(rt, &left)?;
     for level in 0..3u32 {
         check_level(rt, &book, level, &left)?;
     }
 
     println!(rt; "Without option 0 of item 0:")?;
     let fewer = [0b10u32, 0b1111, 0b1111];
-    show_set(rt, &book, &fewer)?;
+    show_set(rt, &fewer)?;
     check_level(rt, &book, 2, &fewer)?;
 
     println!(rt; "A level that is not there:")?;
@@ -55,7 +55,7 @@ fn join_signals(rt: &impl Print) -> io::Result<()> {
     show_pairs(rt, &joint)?;
     show_forbidden(rt, &manual, &site, &joint)?;
     let all = [0b11u32, 0b11];
-    show_set(rt, &joint, &all)?;
+    show_set(rt, &all)?;
     check_level(rt, &joint, 2, &all)
 }
 

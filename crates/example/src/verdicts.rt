@@ -2,36 +2,32 @@
 use bits::bit::has_bit;
 use books::rule::RuleBook;
 use checking::call::{failing_on, is_consistent};
+use levels::level::Level;
+use meaning::refusal::Refusal;
 use std::io;
 
-fn level_name(level: u32) -> &'static str {
+// What an option that fails the level lacks on the item named.
+fn lack(level: Level) -> &'static str {
     match level {
-        0 => "arc consistency",
-        1 => "restricted path consistency",
-        2 => "max-restricted path consistency",
-        _ => "no level",
+        Level::Arc => "has no partner",
+        Level::RestrictedPath => "has no partner, or a lone one that is no path partner,",
+        Level::MaxRestrictedPath => "has no path partner",
     }
 }
 
-// What an option that fails the level lacks on the item named.
-fn lack(level: u32) -> &'static str {
-    match level {
-        0 => "has no partner",
-        1 => "has no partner, or a lone one that is no path partner,",
-        _ => "has no path partner",
+// Ends the line with the options whose bits the word has.
+pub fn show_options(rt: &impl Print, word: u32) -> io::Result<()> {
+    for a in (0..32usize).filter(|a| has_bit(word, *a)) {
+        print!(rt; " {a}")?;
     }
+    println!(rt; "")
 }
 
 // Prints the options of each item that are in the set.
-pub fn show_set<B: RuleBook>(rt: &impl Print, book: &B, set: &[u32]) -> io::Result<()> {
+pub fn show_set(rt: &impl Print, set: &[u32]) -> io::Result<()> {
     for (i, word) in set.iter().enumerate() {
         print!(rt; "  item {i}: options")?;
-        for a in 0..book.options(i) {
-            if has_bit(*word, a) {
-                print!(rt; " {a}")?;
-            }
-        }
-        println!(rt; "")?;
+        show_options(rt, *word)?;
     }
     Ok(())
 }
@@ -40,13 +36,13 @@ pub fn show_set<B: RuleBook>(rt: &impl Print, book: &B, set: &[u32]) -> io::Resu
 fn show_failures<B: RuleBook>(
     rt: &impl Print,
     book: &B,
-    level: u32,
+    number: u32,
+    lack: &str,
     set: &[u32],
     i: usize,
 ) -> io::Result<()> {
-    let lack = lack(level);
     for a in 0..book.options(i) {
-        if let Ok(Some(j)) = failing_on(book, level, set, i, a) {
+        if let Ok(Some(j)) = failing_on(book, number, set, i, a) {
             println!(rt; "    option {a} of item {i} {lack} on item {j}")?;
             println!(rt; "    so no consistent set among these options has it")?;
         }
@@ -54,23 +50,28 @@ fn show_failures<B: RuleBook>(
     Ok(())
 }
 
+// The level of the number, and whether the set is consistent at it.
+fn judge<B: RuleBook>(book: &B, number: u32, set: &[u32]) -> Result<(Level, bool), Refusal> {
+    let consistent = is_consistent(book, number, set)?;
+    Ok((Level::try_from(number)?, consistent))
+}
+
 // Prints whether the set is consistent at the level, with the options that fail, or the refusal.
 pub fn check_level<B: RuleBook>(
     rt: &impl Print,
     book: &B,
-    level: u32,
+    number: u32,
     set: &[u32],
 ) -> io::Result<()> {
-    let name = level_name(level);
-    match is_consistent(book, level, set) {
-        Ok(true) => println!(rt; "  level {level}, {name}: consistent"),
-        Ok(false) => {
-            println!(rt; "  level {level}, {name}: not consistent")?;
+    match judge(book, number, set) {
+        Ok((level, true)) => println!(rt; "  level {number}, {level}: consistent"),
+        Ok((level, false)) => {
+            println!(rt; "  level {number}, {level}: not consistent")?;
             for i in 0..book.items() {
-                show_failures(rt, book, level, set, i)?;
+                show_failures(rt, book, number, lack(level), set, i)?;
             }
             Ok(())
         }
-        Err(refusal) => println!(rt; "  level {level}: {refusal}"),
+        Err(refusal) => println!(rt; "  level {number}: {refusal}"),
     }
 }
