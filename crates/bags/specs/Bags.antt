@@ -6,7 +6,7 @@
 -- size b: how many elements b has, repeats counted
 -- passing f xs, many f b: how many elements of a list, of a bag, pass the test f
 -- Each P b: P holds of each element x, those for which b is x and others
-use Rattle.std.specs.Prelude.{◌≡◌, ℕ, suc, ◌+◌, Bool, cond, List, [], ◌∷◌, length, refl}
+use Rattle.std.specs.Prelude.{◌≡◌, ℕ, suc, ◌+◌, Bool, if◌then◌else◌, List, [], ◌∷◌, length, refl}
 use Rattle.std.proofs.Common.{ap, ◌∙◌, arith}
 use Rattle.std.proofs.Math.Logic.{∥∥₁_elim}
 use mathlib.Core.List.Perm
@@ -39,20 +39,24 @@ length_perm xs ys p = ∥∥₁_elim p (ℕ_set (length xs) (length ys)) length_
 abbrev pub size : {T : Type 0} → Bag T → ℕ
 size b = lift ℕ_set length length_perm b
 
+-- 1 for an element that passes the test
+abbrev pub one_if : Bool → ℕ
+one_if b = if b then 1 else 0
+
 abbrev pub passing : {T : Type 0} → (T → Bool) → List T → ℕ
 passing f [] = 0
-passing f (x ∷ xs) = cond (f x) 1 0 + passing f xs
+passing f (x ∷ xs) = one_if (f x) + passing f xs
 
 -- A lemma that stands here only because `many` is defined by it: of permuted lists, as many elements pass.
 passing_permᴰ : {T : Type 0} (f : T → Bool) {xs ys : List T} → Permᴰ xs ys → passing f xs ≡ passing f ys
 passing_permᴰ {T} f Permᴰ.nil = refl
 passing_permᴰ {T} f (Permᴰ.cons e d) =
-    let p = ap (λ (x : T). cond {A = ℕ} (f x) 1 0) e in
+    let p = ap (λ (x : T). one_if (f x)) e in
     let q = passing_permᴰ f d in
     omega arith
 passing_permᴰ {T} f (Permᴰ.swap e g) =
-    let p = ap (λ (x : T). cond {A = ℕ} (f x) 1 0) e in
-    let q = ap (λ (x : T). cond {A = ℕ} (f x) 1 0) g in
+    let p = ap (λ (x : T). one_if (f x)) e in
+    let q = ap (λ (x : T). one_if (f x)) g in
     omega arith
 passing_permᴰ {T} f (Permᴰ.trans d e) = passing_permᴰ f d ∙ passing_permᴰ f e
 
