@@ -12,7 +12,7 @@ use meaning::refusal::Refusal;
 
 // Item i has the option a.
 fn check_option<B: RuleBook>(book: &B, i: usize, a: usize) -> Result<(), Refusal>
-    ensures { result ≡ option_due (B.RuleBook.meaning book.now) i a }
+    ensures { result ≡ option_due (B.meaning book.now) i a }
 {
     if i >= book.items() {
         return Err(Refusal::NoSuchItem);
@@ -26,8 +26,8 @@ fn check_option<B: RuleBook>(book: &B, i: usize, a: usize) -> Result<(), Refusal
 impl<B: RuleBook> Session<B> {
     // Strikes these options of item i, if it has the option a and that is not struck.
     fn strike_options(&mut self, i: usize, a: usize, options: u32) -> Result<(), Refusal>
-        ensures said { result ≡ strike_due (B.RuleBook.meaning self.old.book) (view self.old) i a }
-        ensures did { view self.new ≡ after_striking (B.RuleBook.meaning self.old.book) (view self.old) i a options }
+        ensures said { result ≡ strike_due (B.meaning self.old.book) (view self.old) i a }
+        ensures did { view self.new ≡ after_striking (B.meaning self.old.book) (view self.old) i a options }
         ensures same { self.new.book ≡ self.old.book }
     {
         let marks = self.marks.as_mut().ok_or(Refusal::Barred)?;
@@ -41,8 +41,8 @@ impl<B: RuleBook> Session<B> {
 
     // Strikes the option a of item i.
     pub fn strike(&mut self, i: usize, a: usize) -> Result<(), Refusal>
-        ensures said { result ≡ strike_due (B.RuleBook.meaning self.old.book) (view self.old) i a }
-        ensures did { view self.new ≡ after_strike (B.RuleBook.meaning self.old.book) (view self.old) i a }
+        ensures said { result ≡ strike_due (B.meaning self.old.book) (view self.old) i a }
+        ensures did { view self.new ≡ after_strike (B.meaning self.old.book) (view self.old) i a }
         ensures same { self.new.book ≡ self.old.book }
     {
         self.strike_options(i, a, one_option(a))
@@ -50,8 +50,8 @@ impl<B: RuleBook> Session<B> {
 
     // Chooses the option a of item i: strikes the item's others.
     pub fn choose(&mut self, i: usize, a: usize) -> Result<(), Refusal>
-        ensures said { result ≡ strike_due (B.RuleBook.meaning self.old.book) (view self.old) i a }
-        ensures did { view self.new ≡ after_choose (B.RuleBook.meaning self.old.book) (view self.old) i a }
+        ensures said { result ≡ strike_due (B.meaning self.old.book) (view self.old) i a }
+        ensures did { view self.new ≡ after_choose (B.meaning self.old.book) (view self.old) i a }
         ensures same { self.new.book ≡ self.old.book }
     {
         let others = other_options(&self.book, i, a);
@@ -60,8 +60,8 @@ impl<B: RuleBook> Session<B> {
 
     // Restores the option a of item i; then all options that are not struck are kept.
     pub fn restore(&mut self, i: usize, a: usize) -> Result<(), Refusal>
-        ensures said { result ≡ restore_due (B.RuleBook.meaning self.old.book) (view self.old) i a }
-        ensures did { view self.new ≡ after_restore (B.RuleBook.meaning self.old.book) (view self.old) i a }
+        ensures said { result ≡ restore_due (B.meaning self.old.book) (view self.old) i a }
+        ensures did { view self.new ≡ after_restore (B.meaning self.old.book) (view self.old) i a }
         ensures same { self.new.book ≡ self.old.book }
     {
         let marks = self.marks.as_mut().ok_or(Refusal::Barred)?;

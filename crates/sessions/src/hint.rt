@@ -12,7 +12,7 @@ use meaning::refusal::Refusal;
 
 // The item with the fewest kept options among those with two or more, the lowest on ties.
 fn fewest_kept<B: RuleBook>(book: &B, marks: &Marks) -> Option<usize>
-    ensures { Hints (B.RuleBook.meaning book.now) (shown (Some marks.now)) result }
+    ensures { Hints (B.meaning book.now) (shown (Some marks.now)) result }
 {
     let mut best = None;
     for i in 0..book.items() {
@@ -27,7 +27,7 @@ fn fewest_kept<B: RuleBook>(book: &B, marks: &Marks) -> Option<usize>
 impl<B: RuleBook> Session<B> {
     // The item at which a designer should decide next, if any is still open.
     pub fn hint(&self) -> Result<Option<usize>, Refusal>
-        ensures { HintSays (B.RuleBook.meaning self.now.book) (view self.now) result }
+        ensures { HintSays (B.meaning self.now.book) (view self.now) result }
     {
         let marks = self.marks.as_ref().ok_or(Refusal::Barred)?;
         Ok(fewest_kept(&self.book, marks))

@@ -33,7 +33,7 @@ impl Marks {
     // Nothing is struck, and all options are kept.
     pub(crate) fn new<B: RuleBook>(book: &B) -> Marks
         ensures struck { words result.struck ≡ nothing }
-        ensures kept { words result.kept ≡ unstruck (B.RuleBook.meaning book.now) nothing }
+        ensures kept { words result.kept ≡ unstruck (B.meaning book.now) nothing }
     {
         let struck = [0; 32];
         Marks {
@@ -56,7 +56,7 @@ impl Marks {
     pub(crate) fn restore<B: RuleBook>(&mut self, book: &B, i: usize, options: u32)
         requires { i < 32 }
         ensures struck { words self.new.struck ≡ without_word (words self.old.struck) i options }
-        ensures kept { words self.new.kept ≡ unstruck (B.RuleBook.meaning book.now) (words self.new.struck) }
+        ensures kept { words self.new.kept ≡ unstruck (B.meaning book.now) (words self.new.struck) }
     {
         take(&mut self.struck, i, options);
         let kept = unstruck_words(book, &self.struck);

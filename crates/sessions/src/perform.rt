@@ -28,7 +28,7 @@ impl<B: RuleBook> Session<B> {
         options: &mut O,
         items: &mut I,
     ) -> Answer
-        ensures did { Did (B.RuleBook.meaning self.old.book) call (room counts.old (O.WaitingList.waits options.old) (O.WaitingList.room options.old) (I.WaitingList.waits items.old) (I.WaitingList.room items.old)) (view self.old) result (room counts.new (O.WaitingList.waits options.new) (O.WaitingList.room options.new) (I.WaitingList.waits items.new) (I.WaitingList.room items.new)) (view self.new) }
+        ensures did { Did (B.meaning self.old.book) call (room counts.old (O.waits options.old) (O.room options.old) (I.waits items.old) (I.room items.old)) (view self.old) result (room counts.new (O.waits options.new) (O.room options.new) (I.waits items.new) (I.room items.new)) (view self.new) }
         ensures same { self.new.book ≡ self.old.book }
     {
         match call {
@@ -54,7 +54,7 @@ pub fn perform<B: RuleBook + Drop, O: WaitingList<Choice>, I: WaitingList<u8>>(
     options: &mut O,
     items: &mut I,
 ) -> Result<Performed<B>, AllocError>
-    ensures { IfOk result (λ p. (p.session.book ≡ book) × Performs (B.RuleBook.meaning book) asked calls.now p.answers.items (room counts.old (O.WaitingList.waits options.old) (O.WaitingList.room options.old) (I.WaitingList.waits items.old) (I.WaitingList.room items.old)) (view p.session) (room counts.new (O.WaitingList.waits options.new) (O.WaitingList.room options.new) (I.WaitingList.waits items.new) (I.WaitingList.room items.new))) }
+    ensures { IfOk result (λ p. (p.session.book ≡ book) × Performs (B.meaning book) asked calls.now p.answers.items (room counts.old (O.waits options.old) (O.room options.old) (I.waits items.old) (I.room items.old)) (view p.session) (room counts.new (O.waits options.new) (O.room options.new) (I.waits items.new) (I.room items.new))) }
 {
     let mut session = Session::open(book, asked);
     let mut answers = Vec::new(alloc);

@@ -24,7 +24,7 @@ use runs::call::Outcome;
 
 // How many options the book has.
 fn book_size<B: RuleBook>(book: &B) -> usize
-    ensures { result ≡ size (B.RuleBook.meaning book.now) (is_option (B.RuleBook.meaning book.now)) }
+    ensures { result ≡ size (B.meaning book.now) (is_option (B.meaning book.now)) }
 {
     set_size(book, &unstruck_words(book, &[0; 32]))
 }
@@ -36,7 +36,7 @@ fn has_room<B: RuleBook, O: WaitingList<Choice>, I: WaitingList<u8>>(
     options: &O,
     items: &I,
 ) -> bool
-    ensures { result ≡ roomy (B.RuleBook.meaning book.now) (room counts.now (O.WaitingList.waits options.now) (O.WaitingList.room options.now) (I.WaitingList.waits items.now) (I.WaitingList.room items.now)) }
+    ensures { result ≡ roomy (B.meaning book.now) (room counts.now (O.waits options.now) (O.room options.now) (I.waits items.now) (I.room items.now)) }
 {
     let n = book.items();
     counts.len() >= 1024 * n
@@ -65,8 +65,8 @@ fn settle<B: RuleBook, O: WaitingList<Choice>, I: WaitingList<u8>>(
     options: &mut O,
     items: &mut I,
 ) -> Result<Settled, Refusal>
-    requires { roomy (B.RuleBook.meaning book.now) (room counts.old (O.WaitingList.waits options.old) (O.WaitingList.room options.old) (I.WaitingList.waits items.old) (I.WaitingList.room items.old)) ≡ true }
-    ensures { Settles level (B.RuleBook.meaning book.now) (room counts.old (O.WaitingList.waits options.old) (O.WaitingList.room options.old) (I.WaitingList.waits items.old) (I.WaitingList.room items.old)) (words struck.now) result (room counts.new (O.WaitingList.waits options.new) (O.WaitingList.room options.new) (I.WaitingList.waits items.new) (I.WaitingList.room items.new)) }
+    requires { roomy (B.meaning book.now) (room counts.old (O.waits options.old) (O.room options.old) (I.waits items.old) (I.room items.old)) ≡ true }
+    ensures { Settles level (B.meaning book.now) (room counts.old (O.waits options.old) (O.room options.old) (I.waits items.old) (I.room items.old)) (words struck.now) result (room counts.new (O.waits options.new) (O.room options.new) (I.waits items.new) (I.room items.new)) }
 {
     let start = unstruck_words(book, struck);
     let mut kept_words = start;
@@ -103,7 +103,7 @@ impl<B: RuleBook> Session<B> {
         options: &mut O,
         items: &mut I,
     ) -> Result<Outcome, Refusal>
-        ensures did { Did (B.RuleBook.meaning self.old.book) (Screen level) (room counts.old (O.WaitingList.waits options.old) (O.WaitingList.room options.old) (I.WaitingList.waits items.old) (I.WaitingList.room items.old)) (view self.old) (answered result) (room counts.new (O.WaitingList.waits options.new) (O.WaitingList.room options.new) (I.WaitingList.waits items.new) (I.WaitingList.room items.new)) (view self.new) }
+        ensures did { Did (B.meaning self.old.book) (Screen level) (room counts.old (O.waits options.old) (O.room options.old) (I.waits items.old) (I.room items.old)) (view self.old) (answered result) (room counts.new (O.waits options.new) (O.room options.new) (I.waits items.new) (I.room items.new)) (view self.new) }
         ensures book { self.new.book ≡ self.old.book }
         ensures early { Early result ((options.new ≡ options.old) × (items.new ≡ items.old)) }
     {

@@ -18,7 +18,7 @@ pub struct Session<B> {
 
 // The edition asked for is one that a book can have, and the book's own.
 fn edition_fits<B: RuleBook>(book: &B, asked: u32) -> bool
-    ensures { result ≡ (within asked 9999 && asked == (B.RuleBook.meaning book.now).edition) }
+    ensures { result ≡ (within asked 9999 && asked == (B.meaning book.now).edition) }
 {
     asked >= 1 && asked <= 9999 && asked == book.edition()
 }
@@ -27,7 +27,7 @@ impl<B: RuleBook> Session<B> {
     // A session that keeps all options; barred, with nothing kept, unless the book has the edition asked for.
     pub fn open(book: B, asked: u32) -> Session<B>
         ensures same { result.book ≡ book }
-        ensures start { view result ≡ opened (B.RuleBook.meaning book) asked }
+        ensures start { view result ≡ opened (B.meaning book) asked }
     {
         let marks = if edition_fits(&book, asked) {
             Some(Marks::new(&book))
@@ -39,7 +39,7 @@ impl<B: RuleBook> Session<B> {
 
     // The word of the options of item i that are kept; none of a missing item or a barred session.
     pub fn kept(&self, i: usize) -> u32
-        ensures { (a : ℕ) → bit result a ≡ is_shown (B.RuleBook.meaning self.now.book) (view self.now).barred (view self.now).kept i a }
+        ensures { (a : ℕ) → bit result a ≡ is_shown (B.meaning self.now.book) (view self.now).barred (view self.now).kept i a }
     {
         match &self.marks {
             Some(marks) => item_options(&self.book, &marks.kept, i),
@@ -49,7 +49,7 @@ impl<B: RuleBook> Session<B> {
 
     // The word of the options of item i that are struck, likewise.
     pub fn struck(&self, i: usize) -> u32
-        ensures { (a : ℕ) → bit result a ≡ is_shown (B.RuleBook.meaning self.now.book) (view self.now).barred (view self.now).struck i a }
+        ensures { (a : ℕ) → bit result a ≡ is_shown (B.meaning self.now.book) (view self.now).barred (view self.now).struck i a }
     {
         match &self.marks {
             Some(marks) => item_options(&self.book, &marks.struck, i),

@@ -10,7 +10,7 @@ use books::rule::RuleBook;
 
 // How many options of item i the set has.
 pub(crate) fn count_options<B: RuleBook>(book: &B, set: &[u32; 32], i: usize) -> usize
-    ensures value { result ≡ count ((B.RuleBook.meaning book.now).options i) (words set.now i) }
+    ensures value { result ≡ count ((B.meaning book.now).options i) (words set.now i) }
     ensures most { result ≤ 32 }
 {
     item_options(book, set, i).count_ones() as usize
@@ -18,7 +18,7 @@ pub(crate) fn count_options<B: RuleBook>(book: &B, set: &[u32; 32], i: usize) ->
 
 // How many options the set has.
 pub fn set_size<B: RuleBook>(book: &B, set: &[u32; 32]) -> usize
-    ensures { result ≡ size (B.RuleBook.meaning book.now) (words set.now) }
+    ensures { result ≡ size (B.meaning book.now) (words set.now) }
 {
     let mut total = 0;
     for i in 0..book.items() {
@@ -29,14 +29,14 @@ pub fn set_size<B: RuleBook>(book: &B, set: &[u32; 32]) -> usize
 
 // Whether the set has no option of item i.
 fn is_empty<B: RuleBook>(book: &B, set: &[u32; 32], i: usize) -> bool
-    ensures { result ≡ not (some ((B.RuleBook.meaning book.now).options i) (words set.now i)) }
+    ensures { result ≡ not (some ((B.meaning book.now).options i) (words set.now i)) }
 {
     item_options(book, set, i) == 0
 }
 
 // The lowest item of which the set has no option.
 pub fn lowest_empty<B: RuleBook>(book: &B, set: &[u32; 32]) -> Option<usize>
-    ensures { Empties (B.RuleBook.meaning book.now) (words set.now) result }
+    ensures { Empties (B.meaning book.now) (words set.now) result }
 {
     (0..book.items()).find(|i| is_empty(book, set, *i))
 }

@@ -24,21 +24,21 @@ pub(crate) fn one_option(a: usize) -> u32
 
 // All options of item i; none where there is no such item.
 pub fn all_options<B: RuleBook>(book: &B, i: usize) -> u32
-    ensures { (a : ℕ) → bit result a ≡ is_option (B.RuleBook.meaning book.now) i a }
+    ensures { (a : ℕ) → bit result a ≡ is_option (B.meaning book.now) i a }
 {
     low_bits(book.options(i))
 }
 
 // The options of item i but a.
 pub(crate) fn other_options<B: RuleBook>(book: &B, i: usize, a: usize) -> u32
-    ensures { (b : ℕ) → bit result b ≡ (not (a == b) && is_option (B.RuleBook.meaning book.now) i b) }
+    ensures { (b : ℕ) → bit result b ≡ (not (a == b) && is_option (B.meaning book.now) i b) }
 {
     all_options(book, i) & !one_option(a)
 }
 
 // The options of item i that the set has; none where there is no such item.
 pub(crate) fn item_options<B: RuleBook>(book: &B, set: &[u32; 32], i: usize) -> u32
-    ensures { (a : ℕ) → bit result a ≡ (is_option (B.RuleBook.meaning book.now) i a && words set.now i a) }
+    ensures { (a : ℕ) → bit result a ≡ (is_option (B.meaning book.now) i a && words set.now i a) }
 {
     if i >= 32 {
         return 0;
@@ -49,14 +49,14 @@ pub(crate) fn item_options<B: RuleBook>(book: &B, set: &[u32; 32], i: usize) -> 
 // The options of item i that are not struck.
 fn unstruck_options<B: RuleBook>(book: &B, struck: &[u32; 32], i: usize) -> u32
     requires { i < 32 }
-    ensures { (a : ℕ) → bit result a ≡ unstruck (B.RuleBook.meaning book.now) (words struck.now) i a }
+    ensures { (a : ℕ) → bit result a ≡ unstruck (B.meaning book.now) (words struck.now) i a }
 {
     all_options(book, i) & !struck[i]
 }
 
 // All options that are not struck.
 pub fn unstruck_words<B: RuleBook>(book: &B, struck: &[u32; 32]) -> [u32; 32]
-    ensures { words result ≡ unstruck (B.RuleBook.meaning book.now) (words struck.now) }
+    ensures { words result ≡ unstruck (B.meaning book.now) (words struck.now) }
 {
     array::from_fn(|i| unstruck_options(book, struck, i))
 }
