@@ -1,5 +1,5 @@
 -- `find`, and `nth` after `filter`, over the numbers below a bound, in the words of `Below`.
-use Rattle.std.proofs.Common.{◌≡◌, ℕ, suc, zero, ◌+◌, ◌<◌, ◌≤◌, ◌≤◌, Bool, true, false, not, cond, List, ◌∷◌, length, filter, nat_lt, is_some, Option, Some, None, MatchOption, slice_get, Bor, sym, ap, ◌∙◌, arith}
+use Rattle.std.proofs.Common.{◌≡◌, ℕ, suc, zero, ◌+◌, ◌<◌, ◌≤◌, Bool, true, false, not, cond, List, ◌∷◌, length, filter, nat_lt, is_some, Option, Some, None, MatchOption, slice_get, Bor, sym, ap, ◌∙◌, arith}
 use Rattle.std.proofs.iter.Yields.{nat_range_steps}
 use Rattle.std.proofs.lemmas.Bool.Decides.{nat_tests}
 use Rattle.std.proofs.lemmas.Iterator.{YieldsList-from_range, first_from_Range}
