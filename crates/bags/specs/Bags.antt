@@ -6,7 +6,7 @@
 -- size b: how many elements b has, repeats counted
 -- passing f xs, many f b: how many elements of a list, of a bag, pass the test f
 -- Each P b: P holds of each element x, those for which b is x and others
-use Rattle.std.specs.Prelude.{◌≡◌, ℕ, suc, ◌+◌, Bool, cond, List, [], ◌∷◌, length, refl}
+use Rattle.std.specs.Prelude.{◌≡◌, ℕ, suc, ◌+◌, Bool, cond, List, [], ◌∷◌, length, refl, if◌then◌else◌}
 use Rattle.std.proofs.Common.{ap, ◌∙◌, arith}
 use Rattle.std.proofs.Math.Logic.{∥∥₁_elim}
 use mathlib.Core.List.Perm
@@ -41,7 +41,7 @@ size b = lift ℕ_set length length_perm b
 
 abbrev pub passing : {T : Type 0} → (T → Bool) → List T → ℕ
 passing f [] = 0
-passing f (x ∷ xs) = cond (f x) 1 0 + passing f xs
+passing f (x ∷ xs) = (if f x then 1 else 0) + passing f xs
 
 -- A lemma that stands here only because `many` is defined by it: of permuted lists, as many elements pass.
 passing_permᴰ : {T : Type 0} (f : T → Bool) {xs ys : List T} → Permᴰ xs ys → passing f xs ≡ passing f ys

@@ -3,7 +3,7 @@
 -- turned head xs: the whole memory, read from `head` on and round its end
 -- ringed head count xs: the first `count` places of the memory so read
 -- wrapped room k: the place k of a ring of `room` places, where k is less than twice as large
-use Rattle.std.specs.Prelude.{ℕ, ◌-◌, cond, List, ◌++◌, take, drop, nat_lt}
+use Rattle.std.specs.Prelude.{ℕ, ◌-◌, List, ◌++◌, take, drop, nat_lt, if◌then◌else◌}
 
 abbrev pub stacked : {T : Type 0} → ℕ → List T → List T
 stacked count xs = take count xs
@@ -15,4 +15,4 @@ abbrev pub ringed : {T : Type 0} → ℕ → ℕ → List T → List T
 ringed head count xs = take count (turned head xs)
 
 abbrev pub wrapped : ℕ → ℕ → ℕ
-wrapped room k = cond (nat_lt k room) k (k - room)
+wrapped room k = if nat_lt k room then k else k - room

@@ -4,7 +4,7 @@
 -- used m s n: byte n is that of an option of the set s and a linked item; count_at m s n: the count that byte n is for, 0 where it is of none
 -- Counted m s bytes: the byte is the number of partners that a has on j, for each option a of i in the set s and each linked j, and at every other place it is 0
 -- CountsFixed: that fixes all of the first 1024 bytes for each item
-use Rattle.std.specs.Prelude.{◌≡◌, ℕ, ◌+◌, ◌*◌, ◌/◌, ◌%◌, ◌<◌, Bool, cond, ◌&&◌, List, slice_index}
+use Rattle.std.specs.Prelude.{◌≡◌, ℕ, ◌+◌, ◌*◌, ◌/◌, ◌%◌, ◌<◌, Bool, ◌&&◌, List, slice_index, if◌then◌else◌}
 use Rattle.meaning.specs.Meaning.{Meaning}
 use Rattle.levels.specs.Sets.{Set, Has}
 use Rattle.levels.specs.Levels.{Linked}
@@ -20,7 +20,7 @@ abbrev pub used : Meaning → Set → ℕ → Bool
 used m s n = s (n / 1024) (n / 32 % 32) && m.linked (n / 1024) (n % 32)
 
 abbrev pub count_at : Meaning → Set → ℕ → ℕ
-count_at m s n = cond (used m s n) (partners m s (n / 1024) (n / 32 % 32) (n % 32)) 0
+count_at m s n = if used m s n then partners m s (n / 1024) (n / 32 % 32) (n % 32) else 0
 
 pub record Counted (m : Meaning) (s : Set) (bytes : List ℕ) : Type 0 where
   pub support : (i a j : ℕ) → Has m s i a → Linked m i j → byte bytes i a j ≡ partners m s i a j

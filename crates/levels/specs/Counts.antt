@@ -2,7 +2,7 @@
 -- partners: how many partners a has on j
 -- count_on c: a partner, and a path partner where there are at most c partners
 -- count_of: the count that stands for a level; level_numbered: the level of a number, or the refusal
-use Rattle.std.specs.Prelude.{ℕ, ◌≤◌, cond, ◌&&◌, Ok, Err, Result, ◌==◌}
+use Rattle.std.specs.Prelude.{ℕ, ◌≤◌, ◌&&◌, Ok, Err, Result, ◌==◌, if◌then◌else◌}
 use Rattle.bits.specs.Below.{count}
 use Rattle.meaning.specs.Meaning.{Meaning}
 use Rattle.meaning.specs.declared.refusal.Refusal.{Refusal}
@@ -24,4 +24,8 @@ count_of RestrictedPath = 1
 count_of MaxRestrictedPath = 32
 
 abbrev pub level_numbered : ℕ → Result Level Refusal
-level_numbered n = cond (n == 0) (Ok Arc) (cond (n == 1) (Ok RestrictedPath) (cond (n == 2) (Ok MaxRestrictedPath) (Err NoSuchLevel)))
+level_numbered n =
+    if n == 0 then Ok Arc
+    else if n == 1 then Ok RestrictedPath
+    else if n == 2 then Ok MaxRestrictedPath
+    else Err NoSuchLevel
