@@ -1,10 +1,10 @@
 -- The test of every item says that the words are a consistent set of the level.
-use Rattle.std.proofs.Common.{◌≡◌, ℕ, ◌^◌, ◌<◌, Bool, not, ◌&&◌, T, eqb, ltb, ◌↔◌, List, get_or, Ok, Result, sym, subst, arith, eqb→eq, ltb→lt, lt→ltb}
+use Rattle.std.proofs.Common.{◌≡◌, ℕ, ◌^◌, ◌<◌, Bool, not, ◌&&◌, T, eqb, ltb, ◌↔◌, List, get_or, Ok, Result, sym, ◌∙◌, subst, arith, eqb→eq, ltb→lt, lt→ltb}
 use native.Mathlib.Decide.{dec_lt}
 use Rattle.bits.specs.Below.{every}
 use Rattle.bits.specs.Bits.{bit}
 use Rattle.bits.proofs.Belows.{every_e, every_i}
-use Rattle.bits.proofs.Tests.{and_l, and_r, and_i, if_then_i, if_then_e, not_e, not_i, of_true, of_false, eqb_yes}
+use Rattle.bits.proofs.Tests.{and_l, and_r, and_i, if_then_i, if_then_e, not_e, not_i, to_true, of_true, of_false, eqb_yes}
 use Rattle.bits.proofs.Words.{bit_high, bit_there, high_bit, some_bit}
 use Rattle.meaning.specs.Meaning.{Meaning, Lawful}
 use Rattle.meaning.specs.declared.refusal.Refusal.{Refusal}
@@ -60,7 +60,7 @@ module _ (c : ℕ) (m : Meaning) (ws : List ℕ) where
           ]
 
 -- by the level's partner count n
-pub judged : (l : Level) (n : ℕ) → n ≡ count_of l → (m : Meaning) → Lawful m → (ws : List ℕ) → T (every m.items (is_item n m ws)) ↔ ConsistentSet l m ws
+judged : (l : Level) (n : ℕ) → n ≡ count_of l → (m : Meaning) → Lawful m → (ws : List ℕ) → T (every m.items (is_item n m ws)) ↔ ConsistentSet l m ws
 judged l n e m lawful ws = (
   (λ t. (proper n m ws t, ((λ i a h j k. (is_count l n e m lawful (words ws) i a j k).1 (closed n m ws t i a h j k)), none_empty n m ws t))),
   λ h. every_i m.items (is_item n m ws) (item_holds n m ws h.0 (λ i a x j k. (is_count l n e m lawful (words ws) i a j k).0 (h.1.0 i a x j k)) h.1.1),
@@ -68,5 +68,6 @@ judged l n e m lawful ws = (
 
 pub judges : (l : Level) (n : ℕ) → n ≡ count_of l → (m : Meaning) → Lawful m → (ws : List ℕ) (d : Result Level Refusal) → Ok l ≡ d → (b : Bool) → b ≡ every m.items (is_item n m ws) → Judges m ws d (Ok b)
 judges l n e m lawful ws d is b says =
+    let all = judged l n e m lawful ws in
     subst (λ (x : Result Level Refusal). Judges m ws x (Ok b)) is
-    (subst (λ (x : Bool). T x ↔ ConsistentSet l m ws) (sym says) (judged l n e m lawful ws))
+    ((λ t. all.0 (of_true (sym says ∙ t))), λ h. says ∙ to_true (every m.items (is_item n m ws)) (all.1 h))

@@ -6,7 +6,7 @@
 -- FailsFirst: the lowest linked item on which the option fails the level, or none where it meets it
 -- Points: the answer is the refusal due, or that item
 -- RuledOut: an option that fails is in no closed set inside the words
-use Rattle.std.specs.Prelude.{◌≡◌, ℕ, ◌<◌, Bool, cond, T, ◌↔◌, List, length, Some, None, Ok, Err, Option, Result, nat_le, nat_lt}
+use Rattle.std.specs.Prelude.{◌≡◌, ℕ, ◌<◌, Bool, IsTrue, ◌↔◌, List, length, Some, None, Ok, Err, Option, Result, nat_le, nat_lt, if◌then◌else◌}
 use Rattle.meaning.specs.Meaning.{Meaning}
 use Rattle.meaning.specs.declared.refusal.Refusal.{Refusal}
 use Rattle.meaning.specs.declared.refusal.Refusal.TheVariants.{NoSuchItem, NoSuchOption, NoSuchLevel, MemoryShort}
@@ -17,20 +17,26 @@ use Rattle.levels.specs.Closed.{Closed, Consistent}
 use Rattle.levels.specs.declared.level.Level.{Level}
 
 abbrev pub due : Meaning → ℕ → List ℕ → Result Level Refusal
-due m number ws = cond (nat_lt 2 number) (Err NoSuchLevel) (cond (nat_lt (length ws) m.items) (Err MemoryShort) (level_numbered number))
+due m number ws =
+    if nat_lt 2 number then Err NoSuchLevel
+    else if nat_lt (length ws) m.items then Err MemoryShort
+    else level_numbered number
 
 abbrev pub ConsistentSet : Level → Meaning → List ℕ → Type 0
 ConsistentSet l m ws = Proper m (words ws) × Consistent (level_on l) m (words ws)
 
 abbrev pub Judges : Meaning → List ℕ → Result Level Refusal → Result Bool Refusal → Type 0
 Judges m ws (Err e) r = r ≡ Err e
-Judges m ws (Ok l) (Ok yes') = T yes' ↔ ConsistentSet l m ws
+Judges m ws (Ok l) (Ok yes') = IsTrue yes' ↔ ConsistentSet l m ws
 Judges m ws (Ok l) (Err e) = ⊥
 
 abbrev pub option_due : Meaning → ℕ → List ℕ → ℕ → ℕ → Result Level Refusal
 option_due m number ws i a =
-    cond (nat_lt 2 number) (Err NoSuchLevel) (cond (nat_lt (length ws) m.items) (Err MemoryShort)
-    (cond (nat_le m.items i) (Err NoSuchItem) (cond (nat_le (m.options i) a) (Err NoSuchOption) (level_numbered number))))
+    if nat_lt 2 number then Err NoSuchLevel
+    else if nat_lt (length ws) m.items then Err MemoryShort
+    else if nat_le m.items i then Err NoSuchItem
+    else if nat_le (m.options i) a then Err NoSuchOption
+    else level_numbered number
 
 abbrev pub FailsFirst : Level → Meaning → Set → ℕ → ℕ → Option ℕ → Type 0
 FailsFirst l m s i a None = Meets (level_on l) m s i a

@@ -7,13 +7,13 @@ use Rattle.lists.specs.declared.newest.Newest.{Newest}
 use Rattle.lists.specs.declared.oldest.Oldest.{Oldest}
 
 abbrev pub stack : {T : Type 0} → Newest T → List T
-stack s = stacked s.count s.slots.cells.now
+stack s = stacked s.count s.cells.now
 
 abbrev pub stack_room : {T : Type 0} → Newest T → ℕ
-stack_room s = length s.slots.cells.now
+stack_room s = length s.cells.now
 
 abbrev pub queue : {T : Type 0} → Oldest T → List T
-queue s = ringed s.head s.count s.slots.cells.now
+queue s = ringed s.head s.count s.cells.now
 
 abbrev pub queue_room : {T : Type 0} → Oldest T → ℕ
-queue_room s = length s.slots.cells.now
+queue_room s = length s.cells.now

@@ -4,7 +4,6 @@
 pub mod choice;
 pub mod newest;
 pub mod oldest;
-mod slots;
 #[cfg(test)]
 mod tests;
 pub mod waiting;

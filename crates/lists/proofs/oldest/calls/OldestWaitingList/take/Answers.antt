@@ -1,9 +1,0 @@
-use Rattle.std.proofs.Common.{arith, rules}
-use Rattle.bags.proofs.Views.{ringed_pop}
-use Rattle.lists.proofs.oldest.calls.OldestWaitingList.take.Goals as goal
-
-pub returns : goal.returns
-returns g c =
-    let s = c.args.self.now in
-    let pop = ringed_pop s.head s.count s.slots.cells.now c.read-x.result (omega arith) (omega arith) s.fits in
-    search rules
