@@ -9,7 +9,7 @@ use meaning::refusal::Refusal;
 
 // The level with this number, where there is a word for each item.
 fn admitted<B: RuleBook>(book: &B, level: u32, set: &[u32]) -> Result<Level, Refusal>
-    ensures { result ≡ due (B.RuleBook.meaning book.now) level set.now }
+    ensures { result ≡ due (B.meaning book.now) level set.now }
 {
     let level = Level::try_from(level)?;
     if set.len() < book.items() {
@@ -20,7 +20,7 @@ fn admitted<B: RuleBook>(book: &B, level: u32, set: &[u32]) -> Result<Level, Ref
 
 // Whether the first n words, for a book of n items, are a consistent set of the level.
 pub fn is_consistent<B: RuleBook>(book: &B, level: u32, set: &[u32]) -> Result<bool, Refusal>
-    ensures { Judges (B.RuleBook.meaning book.now) set.now (due (B.RuleBook.meaning book.now) level set.now) result }
+    ensures { Judges (B.meaning book.now) set.now (due (B.meaning book.now) level set.now) result }
 {
     let level = admitted(book, level, set)?;
     let count = level.partner_count();
@@ -36,8 +36,8 @@ pub fn failing_on<B: RuleBook>(
     i: usize,
     a: usize,
 ) -> Result<Option<usize>, Refusal>
-    ensures points { Points (B.RuleBook.meaning book.now) set.now i a (option_due (B.RuleBook.meaning book.now) level set.now i a) result }
-    ensures out { RuledOut (B.RuleBook.meaning book.now) set.now i a (option_due (B.RuleBook.meaning book.now) level set.now i a) result }
+    ensures points { Points (B.meaning book.now) set.now i a (option_due (B.meaning book.now) level set.now i a) result }
+    ensures out { RuledOut (B.meaning book.now) set.now i a (option_due (B.meaning book.now) level set.now i a) result }
 {
     let level = admitted(book, level, set)?;
     if i >= book.items() {
