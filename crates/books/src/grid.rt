@@ -4,7 +4,7 @@ ghost use Rattle.meaning.specs.Blank.{blank};
 ghost use Rattle.meaning.specs.Grid.{contents_right, grid_book, grid_check, grid_meaning, rows_for};
 ghost use Rattle.meaning.proofs.GridLaws.{grid_lawful};
 
-use crate::grid_check::{links_hold, row_word, rows_hold};
+use crate::grid_check::{CountedGrid, SizedGrid};
 use crate::limits::{counts_hold, limits_hold};
 use crate::rule::RuleBook;
 use bits::bit::has_bit;
@@ -36,7 +36,8 @@ impl<'a> GridBook<'a> {
         {
             return Err(Refusal::MemoryShort);
         }
-        if counts_hold(n, parts.counts) && links_hold(parts) && rows_hold(parts) {
+        let grid = SizedGrid { parts };
+        if counts_hold(n, parts.counts) && grid.links_hold() && (CountedGrid { grid }).rows_hold() {
             Ok(())
         } else {
             Err(Refusal::OutOfLimits { line: 0 })
@@ -105,10 +106,11 @@ impl<'a> RuleBook for GridBook<'a> {
         if !has_bit(self.parts.links[i], j) {
             return true;
         }
+        let grid = SizedGrid { parts: self.parts };
         if i < j {
-            has_bit(row_word(self.parts, i, a, j), b)
+            has_bit(grid.row_word(i, a, j), b)
         } else {
-            has_bit(row_word(self.parts, j, b, i), a)
+            has_bit(grid.row_word(j, b, i), a)
         }
     }
 }
