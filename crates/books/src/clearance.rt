@@ -5,7 +5,7 @@ ghost use Rattle.meaning.specs.Clearance.{clearance_book, clearance_check, clear
 ghost use Rattle.meaning.specs.Pairs.{pairs_for};
 ghost use Rattle.meaning.proofs.ClearanceLaws.{clearance_lawful};
 
-use crate::clearance_check::{gap_between, gaps_hold, green_start, starts_hold};
+use crate::clearance_check::{CountedClearance, SizedClearance};
 use crate::limits::{counts_hold, limits_hold};
 use crate::rule::RuleBook;
 use meaning::parts::ClearanceParts;
@@ -36,7 +36,11 @@ impl<'a> ClearanceBook<'a> {
         {
             return Err(Refusal::MemoryShort);
         }
-        if counts_hold(n, parts.counts) && starts_hold(parts) && gaps_hold(parts) {
+        let clearance = SizedClearance { parts };
+        if counts_hold(n, parts.counts)
+            && (CountedClearance { clearance }).starts_hold()
+            && clearance.gaps_hold()
+        {
             Ok(())
         } else {
             Err(Refusal::OutOfLimits { line: 0 })
@@ -95,14 +99,16 @@ impl<'a> RuleBook for ClearanceBook<'a> {
     }
 
     fn linked(&self, i: usize, j: usize) -> bool {
-        i < self.parts.items && j < self.parts.items && gap_between(self.parts, i, j) >= 1
+        let clearance = SizedClearance { parts: self.parts };
+        i < self.parts.items && j < self.parts.items && clearance.gap_between(i, j) >= 1
     }
 
     fn together(&self, i: usize, a: usize, j: usize, b: usize) -> bool {
         if a >= self.options(i) || b >= self.options(j) {
             return false;
         }
-        let apart = green_start(self.parts, i, a).abs_diff(green_start(self.parts, j, b));
-        apart >= gap_between(self.parts, i, j)
+        let clearance = SizedClearance { parts: self.parts };
+        let apart = clearance.green_start(i, a).abs_diff(clearance.green_start(j, b));
+        apart >= clearance.gap_between(i, j)
     }
 }

@@ -1,18 +1,39 @@
 // The joint book: two rule books of any kind, read as one.
 ghost use Rattle.std.specs.Prelude.{◌≡◌, nat_eq};
 ghost use Rattle.bits.specs.Below.{every};
-ghost use Rattle.meaning.specs.Joint.{agree, joined, joint, joint_check};
-ghost use Rattle.meaning.proofs.JointLaws.{joined_lawful};
+ghost use Rattle.meaning.specs.Joint.{agree, joint, joint_check};
+ghost use Rattle.meaning.proofs.JointLaws.{joint_lawful};
 
 use crate::rule::RuleBook;
 use meaning::refusal::Refusal;
+use std::alloc::AllocError;
 
 // Whether the two books agree is found out once, when the joint book is made.
-#[derive(Clone, Copy)]
 pub struct JointBook<P: RuleBook, Q: RuleBook> {
     first: P,
     second: Q,
     fits: bool,
+    ghost told: { fits ≡ agree (P.meaning first) (Q.meaning second) },
+}
+
+impl<P: RuleBook + Copy, Q: RuleBook + Copy> Copy for JointBook<P, Q> {}
+
+impl<P: RuleBook + Clone, Q: RuleBook + Clone> Clone for JointBook<P, Q> {
+    ghost is_clone = { λ x y. P.is_clone x.first y.first × Q.is_clone x.second y.second };
+
+    ghost is_infallible = { λ x. P.is_infallible x.first × Q.is_infallible x.second };
+
+    // Clones are asked anew whether they agree, since a clone of a book may be another book.
+    fn clone(&self) -> Result<JointBook<P, Q>, AllocError> {
+        let first = self.first.clone()?;
+        let second = self.second.clone()?;
+        let fits = books_agree(&first, &second);
+        Ok(JointBook {
+            first,
+            second,
+            fits,
+        })
+    }
 }
 
 // The first n items have as many options in one book as in the other.
@@ -43,7 +64,7 @@ impl<P: RuleBook, Q: RuleBook> JointBook<P, Q> {
 
     // The joint book of these two, or the blank book where they do not fit.
     pub fn new(first: P, second: Q) -> JointBook<P, Q>
-        ensures { joined result.fits (P.RuleBook.meaning result.first) (Q.RuleBook.meaning result.second) ≡ joint (P.RuleBook.meaning first) (Q.RuleBook.meaning second) }
+        ensures { ⟦<JointBook<P, Q> as RuleBook>⟧.meaning result ≡ joint (P.RuleBook.meaning first) (Q.RuleBook.meaning second) }
     {
         let fits = books_agree(&first, &second);
         JointBook {
@@ -55,14 +76,13 @@ impl<P: RuleBook, Q: RuleBook> JointBook<P, Q> {
 }
 
 impl<P: RuleBook, Q: RuleBook> RuleBook for JointBook<P, Q> {
-    // The second book is heard only of the first's items and where it links them, which is lawful for any two books.
-    ghost meaning = { λ b. joined b.fits (P.RuleBook.meaning b.first) (Q.RuleBook.meaning b.second) };
+    ghost meaning = { λ b. joint (P.RuleBook.meaning b.first) (Q.RuleBook.meaning b.second) };
 
-    ghost lawful = { λ b. joined_lawful (P.RuleBook.meaning b.first) (Q.RuleBook.meaning b.second) (P.RuleBook.lawful b.first) (Q.RuleBook.lawful b.second) b.fits };
+    ghost lawful = { λ b. joint_lawful (P.RuleBook.meaning b.first) (Q.RuleBook.meaning b.second) (P.RuleBook.lawful b.first) (Q.RuleBook.lawful b.second) };
 
-    ghost items_most = { λ b. (joined_lawful (P.RuleBook.meaning b.first) (Q.RuleBook.meaning b.second) (P.RuleBook.lawful b.first) (Q.RuleBook.lawful b.second) b.fits).items_most };
+    ghost items_most = { λ b. (joint_lawful (P.RuleBook.meaning b.first) (Q.RuleBook.meaning b.second) (P.RuleBook.lawful b.first) (Q.RuleBook.lawful b.second)).items_most };
 
-    ghost options_most = { λ b. (joined_lawful (P.RuleBook.meaning b.first) (Q.RuleBook.meaning b.second) (P.RuleBook.lawful b.first) (Q.RuleBook.lawful b.second) b.fits).options_most };
+    ghost options_most = { λ b. (joint_lawful (P.RuleBook.meaning b.first) (Q.RuleBook.meaning b.second) (P.RuleBook.lawful b.first) (Q.RuleBook.lawful b.second)).options_most };
 
     fn edition(&self) -> u32 {
         if self.fits { self.first.edition() } else { 0 }
@@ -83,18 +103,13 @@ impl<P: RuleBook, Q: RuleBook> RuleBook for JointBook<P, Q> {
     }
 
     fn linked(&self, i: usize, j: usize) -> bool {
-        if !self.fits {
-            return false;
-        }
-        let n = self.first.items();
-        self.first.linked(i, j) || (i < n && j < n && self.second.linked(i, j))
+        self.fits && (self.first.linked(i, j) || self.second.linked(i, j))
     }
 
     fn together(&self, i: usize, a: usize, j: usize, b: usize) -> bool {
         if !self.fits {
             return i == 0 && a == 0 && j == 0 && b == 0;
         }
-        self.first.together(i, a, j, b)
-            && (!self.second.linked(i, j) || self.second.together(i, a, j, b))
+        self.first.together(i, a, j, b) && self.second.together(i, a, j, b)
     }
 }
