@@ -4,7 +4,7 @@ use Rattle.std.proofs.lemmas.Bool.{and_parts, lt-ltb, le-ltb}
 use Rattle.std.proofs.lemmas.Bool.Decides.{nat_tests}
 use Rattle.bits.specs.Below.{every}
 use Rattle.meaning.specs.Blank.{blank}
-use Rattle.meaning.specs.Clearance.{apart, clearance_book, clearance_check, clearance_meaning, contents_right, gap_of, gaps_right, green, greens_right}
+use Rattle.meaning.specs.Clearance.{apart, clearance_contents, clearance_meaning, contents_right, gap_of, gaps_right, green, greens_right}
 use Rattle.meaning.specs.Limits.{counts_right, options_in}
 use Rattle.meaning.specs.Meaning.{Lawful}
 use Rattle.meaning.specs.declared.parts.ClearanceParts.{ClearanceParts}
@@ -22,15 +22,15 @@ gap_mutual gaps i j = grind (arith, nat_tests)
 apart_mutual : (x y : ℕ) → apart x y ≡ apart y x
 apart_mutual x y = omega arith
 
-module _ (p : ClearanceParts) (few : (1 ≤ p.items) × (p.items ≤ 32)) (ok : contents_right p.items p.counts.now p.starts.now p.gaps.now ≡ true) where
+pub counts_hold : (p : ClearanceParts) → clearance_contents p ≡ true → counts_right p.items p.counts.now ≡ true
+counts_hold p ok = (and_parts (counts_right p.items p.counts.now) (greens_right p.items p.counts.now p.starts.now && gaps_right p.items p.gaps.now) ok).0
+
+module _ (p : ClearanceParts) (few : (1 ≤ p.items) × (p.items ≤ 32)) (ok : clearance_contents p ≡ true) where
   abbrev n : ℕ
   n = p.items
 
   abbrev counts : List ℕ
   counts = p.counts.now
-
-  pub counts_hold : counts_right n counts ≡ true
-  counts_hold = (and_parts (counts_right n counts) (greens_right n counts p.starts.now && gaps_right n p.gaps.now) ok).0
 
   together_free : (i a j b : ℕ) → (clearance_meaning p).linked i j ≡ false → a < options_in n counts i → b < options_in n counts j → (clearance_meaning p).together i a j b ≡ true
   together_free i a j b t x y =
@@ -42,8 +42,8 @@ module _ (p : ClearanceParts) (few : (1 ≤ p.items) × (p.items ≤ 32)) (ok : 
   clearance_lawful = record {
     items_least = few.0;
     items_most = few.1;
-    options_least = options_least n counts counts_hold;
-    options_most = options_most n counts counts_hold;
+    options_least = options_least n counts (counts_hold p ok);
+    options_most = options_most n counts (counts_hold p ok);
     options_missing = λ i k. let t = le-ltb i n k in grind (arith, nat_tests);
     linked_missing = λ i j k. let t = le-ltb i n k in grind (arith, nat_tests);
     linked_self = λ i. let t = no_own_gap p.gaps.now i in grind (arith, nat_tests);
@@ -78,7 +78,3 @@ module _ (p : ClearanceParts) (e : p.edition ≡ 0) (one : p.items ≡ 1) (count
 pub blank_right : contents_right 1 (1 ∷ []) (replicate 32 0) [] ≡ true
 unfolding every
 blank_right = refl
-
--- refused parts make the blank book
-pub refused_blank : (p : ClearanceParts) (e : Refusal) → Err e ≡ clearance_check p → blank ≡ clearance_book p
-refused_blank p e h = ap (λ (r : Result (Unit {0}) Refusal). cond (is_ok r) (clearance_meaning p) blank) h

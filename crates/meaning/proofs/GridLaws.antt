@@ -100,7 +100,3 @@ module _ (p : GridParts) (e : p.edition ≡ 0) (one : p.items ≡ 1) (count : ge
 
   pub blank_grid : grid_meaning p ≡ blank
   blank_grid = meaning_equal (grid_meaning p) blank e one blank_options blank_linked blank_together
-
--- refused parts make the blank book
-pub refused_blank : (p : GridParts) (e : Refusal) → Err e ≡ grid_check p → blank ≡ grid_book p
-refused_blank p e h = ap (λ (r : Result (Unit {0}) Refusal). cond (is_ok r) (grid_meaning p) blank) h
