@@ -1,8 +1,9 @@
 // The contents of a clearance book's parts, one condition a method.
 ghost use Rattle.std.specs.Prelude.{◌≡◌, ◌<◌, ◌≤◌, true, slice_index};
 ghost use Rattle.bits.specs.Below.{every};
-ghost use Rattle.meaning.specs.Clearance.{Sized, gap_of, gaps_right, green, green_right, greens_right};
+ghost use Rattle.meaning.specs.Clearance.{clearance_meaning, clearance_sizes, gap_of, gaps_right, green, green_right, greens_right};
 ghost use Rattle.meaning.specs.Limits.{counts_right};
+ghost use Rattle.meaning.specs.Parts.{Fits};
 
 use crate::pair::pair_number;
 use meaning::parts::ClearanceParts;
@@ -11,8 +12,7 @@ use meaning::parts::ClearanceParts;
 #[derive(Clone, Copy)]
 pub struct SizedClearance<'a> {
     pub parts: ClearanceParts<'a>,
-    ghost some: { 1 ≤ parts.items },
-    ghost sized: { Sized parts },
+    ghost fits: { Fits (clearance_meaning parts) (clearance_sizes parts) },
 }
 
 impl SizedClearance<'_> {
@@ -50,7 +50,7 @@ impl SizedClearance<'_> {
     }
 
     pub fn gaps_hold(&self) -> bool
-        ensures { result ≡ gaps_right self.now.parts.items self.now.parts.gaps.now }
+        ensures { let p = self.now.parts in result ≡ gaps_right p.items p.gaps.now }
     {
         let parts = self.parts;
         (0..parts.items * (parts.items - 1) / 2).all(|k| parts.gaps[k] <= 3600)
@@ -68,13 +68,13 @@ impl CountedClearance<'_> {
     // The starts of an item's options.
     fn item_holds(&self, i: usize) -> bool
         requires { i < self.now.clearance.parts.items }
-        ensures { result ≡ every (slice_index self.now.clearance.parts.counts.now i) (green_right self.now.clearance.parts.starts.now i) }
+        ensures { let p = self.now.clearance.parts in result ≡ every (slice_index p.counts.now i) (green_right p.starts.now i) }
     {
         (0..usize::from(self.clearance.parts.counts[i])).all(|a| self.clearance.green_start(i, a) <= 3599)
     }
 
     pub fn starts_hold(&self) -> bool
-        ensures { result ≡ greens_right self.now.clearance.parts.items self.now.clearance.parts.counts.now self.now.clearance.parts.starts.now }
+        ensures { let p = self.now.clearance.parts in result ≡ greens_right p.items p.counts.now p.starts.now }
     {
         (0..self.clearance.parts.items).all(|i| self.item_holds(i))
     }

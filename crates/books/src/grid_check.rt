@@ -1,8 +1,9 @@
 // The contents of a grid book's parts, one condition a method.
 ghost use Rattle.std.specs.Prelude.{◌≡◌, ◌<◌, true, slice_index};
 ghost use Rattle.bits.specs.Below.{every};
-ghost use Rattle.meaning.specs.Grid.{Sized, link_bit, link_right, links_right, place, row_right, rows_right, same};
+ghost use Rattle.meaning.specs.Grid.{grid_meaning, grid_sizes, link_bit, link_right, links_right, place, row_right, rows_right, same};
 ghost use Rattle.meaning.specs.Limits.{counts_right};
+ghost use Rattle.meaning.specs.Parts.{Fits};
 
 use crate::pair::pair_number;
 use bits::bit::has_bit;
@@ -12,7 +13,7 @@ use meaning::parts::GridParts;
 #[derive(Clone, Copy)]
 pub struct SizedGrid<'a> {
     pub parts: GridParts<'a>,
-    ghost sized: { Sized parts },
+    ghost fits: { Fits (grid_meaning parts) (grid_sizes parts) },
 }
 
 impl SizedGrid<'_> {
@@ -29,7 +30,7 @@ impl SizedGrid<'_> {
     // What item i says of each other item, that one says of i.
     fn mutual(&self, i: usize) -> bool
         requires { i < self.now.parts.items }
-        ensures { result ≡ every self.now.parts.items (λ j. same (link_bit self.now.parts.links.now i j) (link_bit self.now.parts.links.now j i)) }
+        ensures { let p = self.now.parts in result ≡ every p.items (λ j. same (link_bit p.links.now i j) (link_bit p.links.now j i)) }
     {
         let links = self.parts.links;
         (0..self.parts.items).all(|j| has_bit(links[i], j) == has_bit(links[j], i))
@@ -38,14 +39,14 @@ impl SizedGrid<'_> {
     // No bit for a missing item, not the item's own, and mutual.
     fn link_holds(&self, i: usize) -> bool
         requires { i < self.now.parts.items }
-        ensures { result ≡ link_right self.now.parts.items self.now.parts.links.now i }
+        ensures { let p = self.now.parts in result ≡ link_right p.items p.links.now i }
     {
         let word = self.parts.links[i];
         u64::from(word) < 1u64 << self.parts.items && !has_bit(word, i) && self.mutual(i)
     }
 
     pub fn links_hold(&self) -> bool
-        ensures { result ≡ links_right self.now.parts.items self.now.parts.links.now }
+        ensures { let p = self.now.parts in result ≡ links_right p.items p.links.now }
     {
         (0..self.parts.items).all(|i| self.link_holds(i))
     }
@@ -64,7 +65,7 @@ impl CountedGrid<'_> {
         requires lower { i < j }
         requires within { j < self.now.grid.parts.items }
         requires option { a < 32 }
-        ensures { result ≡ row_right self.now.grid.parts.counts.now self.now.grid.parts.links.now self.now.grid.parts.rows.now j i a }
+        ensures { let p = self.now.grid.parts in result ≡ row_right p.counts.now p.links.now p.rows.now j i a }
     {
         let parts = self.grid.parts;
         let word = self.grid.row_word(i, a, j);
@@ -79,7 +80,7 @@ impl CountedGrid<'_> {
     fn pair_holds(&self, j: usize, i: usize) -> bool
         requires lower { i < j }
         requires within { j < self.now.grid.parts.items }
-        ensures { result ≡ every 32 (row_right self.now.grid.parts.counts.now self.now.grid.parts.links.now self.now.grid.parts.rows.now j i) }
+        ensures { let p = self.now.grid.parts in result ≡ every 32 (row_right p.counts.now p.links.now p.rows.now j i) }
     {
         (0..32).all(|a| self.row_holds(j, i, a))
     }
@@ -87,13 +88,13 @@ impl CountedGrid<'_> {
     // The pairs of an item with the lower ones.
     fn item_holds(&self, j: usize) -> bool
         requires { j < self.now.grid.parts.items }
-        ensures { result ≡ every j (λ i. every 32 (row_right self.now.grid.parts.counts.now self.now.grid.parts.links.now self.now.grid.parts.rows.now j i)) }
+        ensures { let p = self.now.grid.parts in result ≡ every j (λ i. every 32 (row_right p.counts.now p.links.now p.rows.now j i)) }
     {
         (0..j).all(|i| self.pair_holds(j, i))
     }
 
     pub fn rows_hold(&self) -> bool
-        ensures { result ≡ rows_right self.now.grid.parts.items self.now.grid.parts.counts.now self.now.grid.parts.links.now self.now.grid.parts.rows.now }
+        ensures { let p = self.now.grid.parts in result ≡ rows_right p.items p.counts.now p.links.now p.rows.now }
     {
         (0..self.grid.parts.items).all(|j| self.item_holds(j))
     }

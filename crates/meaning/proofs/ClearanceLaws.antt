@@ -1,5 +1,5 @@
 -- A clearance book of checked parts keeps the laws, and the blank book's parts mean the blank book.
-use Rattle.std.proofs.Common.{◌≡◌, ℕ, zero, suc, ◌<◌, ◌≤◌, true, false, cond, ◌&&◌, List, [], ◌∷◌, get_or, replicate, is_ok, Err, Result, refl, ap, arith}
+use Rattle.std.proofs.Common.{◌≡◌, ℕ, zero, suc, ◌<◌, ◌≤◌, true, false, ◌&&◌, List, [], ◌∷◌, get_or, replicate, refl, arith}
 use Rattle.std.proofs.lemmas.Bool.{and_parts, lt-ltb, le-ltb}
 use Rattle.std.proofs.lemmas.Bool.Decides.{nat_tests}
 use Rattle.bits.specs.Below.{every}
@@ -8,7 +8,6 @@ use Rattle.meaning.specs.Clearance.{apart, clearance_contents, clearance_meaning
 use Rattle.meaning.specs.Limits.{counts_right, options_in}
 use Rattle.meaning.specs.Meaning.{Lawful}
 use Rattle.meaning.specs.declared.parts.ClearanceParts.{ClearanceParts}
-use Rattle.meaning.specs.declared.refusal.Refusal.{Refusal}
 use Rattle.meaning.proofs.Equal.{meaning_equal}
 use Rattle.meaning.proofs.OptionCounts.{item_there, options_least, options_most}
 

@@ -1,18 +1,18 @@
 -- A grid book of checked parts keeps the laws, and the blank book's parts mean the blank book.
-use Rattle.std.proofs.Common.{◌≡◌, ℕ, zero, suc, ◌<◌, ◌≤◌, true, false, cond, ◌&&◌, ltb, List, get_or, is_ok, Err, Result, ap, subst, inl, inr, arith}
+use Rattle.std.proofs.Common.{◌≡◌, ℕ, zero, suc, ◌<◌, ◌≤◌, true, false, ◌&&◌, ltb, List, get_or, subst, inl, inr, arith}
 use Rattle.std.proofs.lemmas.Bool.{cases_lt, cases_order, lt-ltb, le-ltb}
 use Rattle.std.proofs.lemmas.Bool.Decides.{nat_tests}
 use Rattle.meaning.specs.Blank.{blank}
 use Rattle.meaning.specs.Meaning.{Lawful}
-use Rattle.meaning.specs.Grid.{grid_book, grid_check, grid_meaning, contents_right, link_bit}
+use Rattle.meaning.specs.Grid.{grid_contents, grid_meaning, link_bit}
 use Rattle.meaning.specs.Limits.{options_in}
 use Rattle.meaning.specs.declared.parts.GridParts.{GridParts}
-use Rattle.meaning.specs.declared.refusal.Refusal.{Refusal}
+
 use Rattle.meaning.proofs.Equal.{meaning_equal}
 use Rattle.meaning.proofs.GridContents.{counts_hold, no_own_link, links_mutual}
 use Rattle.meaning.proofs.OptionCounts.{options_least, options_most, item_there}
 
-module _ (p : GridParts) (few : (1 ≤ p.items) × (p.items ≤ 32)) (ok : contents_right p.items p.counts.now p.links.now p.rows.now ≡ true) where
+module _ (p : GridParts) (few : (1 ≤ p.items) × (p.items ≤ 32)) (ok : grid_contents p ≡ true) where
   abbrev n : ℕ
   n = p.items
 

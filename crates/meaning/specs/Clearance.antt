@@ -4,22 +4,13 @@
 -- apart x y: how far the starts x and y are from each other
 -- .._right: a start, a gap has nothing that the check forbids
 -- clearance_of: the meaning that an edition, a number of items, counts, starts and gaps give
--- clearance_meaning: what checked parts mean; clearance_check: the check's answer; clearance_book: the book made of any parts
-use Rattle.std.specs.Prelude.{ℕ, ◌+◌, ◌-◌, ◌*◌, ◌≤◌, Bool, if◌then◌else◌, ◌&&◌, List, length, Result, nat_le, nat_lt, slice_index}
+-- clearance_meaning: what checked parts mean; clearance_sizes, clearance_contents: the two tests of a clearance book's parts
+use Rattle.std.specs.Prelude.{ℕ, ◌+◌, ◌-◌, ◌*◌, Bool, if◌then◌else◌, ◌&&◌, List, length, nat_le, nat_lt, slice_index}
 use Rattle.bits.specs.Below.{every}
 use Rattle.meaning.specs.Limits.{counts_right, options_in}
 use Rattle.meaning.specs.Meaning.{Meaning}
 use Rattle.meaning.specs.Pairs.{pair, pairs_for}
-use Rattle.meaning.specs.Parts.{parts_book, parts_check}
 use Rattle.meaning.specs.declared.parts.ClearanceParts.{ClearanceParts}
-use Rattle.meaning.specs.declared.refusal.Refusal.{Refusal}
-
--- at most 32 items, and counts, starts and gaps enough for them
-pub record Sized (p : ClearanceParts) : Type 0 where
-  pub few : p.items ≤ 32
-  pub counts_long : p.items ≤ length p.counts.now
-  pub starts_long : 32 * p.items ≤ length p.starts.now
-  pub gaps_long : pairs_for p.items ≤ length p.gaps.now
 
 abbrev pub green : List ℕ → ℕ → ℕ → ℕ
 green starts i a = slice_index starts (32 * i + a)
@@ -67,9 +58,3 @@ clearance_sizes p = sizes_right p.items p.counts.now p.starts.now p.gaps.now
 
 abbrev pub clearance_contents : ClearanceParts → Bool
 clearance_contents p = contents_right p.items p.counts.now p.starts.now p.gaps.now
-
-abbrev pub clearance_check : ClearanceParts → Result (Unit {0}) Refusal
-clearance_check p = parts_check (clearance_meaning p) (clearance_sizes p) (clearance_contents p)
-
-abbrev pub clearance_book : ClearanceParts → Meaning
-clearance_book p = parts_book (clearance_meaning p) (clearance_sizes p) (clearance_contents p)

@@ -3,14 +3,14 @@
 -- link_bit, row_bit: what a link word and a row word say
 -- .._right: a link word, a row word has nothing that the check forbids
 -- grid_of: the meaning that an edition, a number of items, counts, link words and row words give
--- grid_meaning: what checked parts mean; grid_check: the check's answer; grid_book: the book made of any parts
-use Rattle.std.specs.Prelude.{ℕ, ◌+◌, ◌-◌, ◌*◌, ◌^◌, ◌≤◌, Bool, true, false, if◌then◌else◌, not, ◌&&◌, ◌||◌, List, length, Result, ◌==◌, nat_le, nat_lt, slice_index}
+-- grid_meaning: what checked parts mean; grid_sizes, grid_contents: the two tests of a grid book's parts; grid_check: the check's answer
+use Rattle.std.specs.Prelude.{ℕ, ◌+◌, ◌-◌, ◌*◌, ◌^◌, Bool, true, false, if◌then◌else◌, not, ◌&&◌, ◌||◌, List, length, Result, ◌==◌, nat_le, nat_lt, slice_index}
 use Rattle.bits.specs.Below.{every}
 use Rattle.bits.specs.Bits.{bit}
 use Rattle.meaning.specs.Limits.{counts_right, options_in}
 use Rattle.meaning.specs.Meaning.{Meaning}
 use Rattle.meaning.specs.Pairs.{pair}
-use Rattle.meaning.specs.Parts.{parts_book, parts_check}
+use Rattle.meaning.specs.Parts.{parts_check}
 use Rattle.meaning.specs.declared.parts.GridParts.{GridParts}
 use Rattle.meaning.specs.declared.refusal.Refusal.{Refusal}
 
@@ -20,13 +20,6 @@ place i a j = 32 * pair i j + a
 -- how many row words n items take
 abbrev pub rows_for : ℕ → ℕ
 rows_for n = 16 * (n * (n - 1))
-
--- at most 32 items, and counts, links and rows enough for them
-pub record Sized (p : GridParts) : Type 0 where
-  pub few : p.items ≤ 32
-  pub counts_long : p.items ≤ length p.counts.now
-  pub links_long : p.items ≤ length p.links.now
-  pub rows_long : rows_for p.items ≤ length p.rows.now
 
 abbrev pub link_bit : List ℕ → ℕ → ℕ → Bool
 link_bit links i j = bit (slice_index links i) j
@@ -82,6 +75,3 @@ grid_contents p = contents_right p.items p.counts.now p.links.now p.rows.now
 
 abbrev pub grid_check : GridParts → Result (Unit {0}) Refusal
 grid_check p = parts_check (grid_meaning p) (grid_sizes p) (grid_contents p)
-
-abbrev pub grid_book : GridParts → Meaning
-grid_book p = parts_book (grid_meaning p) (grid_sizes p) (grid_contents p)
