@@ -25,26 +25,19 @@ impl<P: RuleBook + Clone, Q: RuleBook + Clone> Clone for JointBook<P, Q> {
 
     // Clones are asked anew whether they agree, since a clone of a book may be another book.
     fn clone(&self) -> Result<JointBook<P, Q>, AllocError> {
-        let first = self.first.clone()?;
-        let second = self.second.clone()?;
-        let fits = books_agree(&first, &second);
-        Ok(JointBook {
-            first,
-            second,
-            fits,
-        })
+        Ok(JointBook::new(self.first.clone()?, self.second.clone()?))
     }
 }
 
 // The first n items have as many options in one book as in the other.
 fn same_counts<P: RuleBook, Q: RuleBook>(first: &P, second: &Q, n: usize) -> bool
-    ensures { result ≡ every n (λ i. nat_eq ((P.RuleBook.meaning first.now).options i) ((Q.RuleBook.meaning second.now).options i)) }
+    ensures { result ≡ every n (λ i. nat_eq ((P.meaning first.now).options i) ((Q.meaning second.now).options i)) }
 {
     (0..n).all(|i| first.options(i) == second.options(i))
 }
 
 fn books_agree<P: RuleBook, Q: RuleBook>(first: &P, second: &Q) -> bool
-    ensures { result ≡ agree (P.RuleBook.meaning first.now) (Q.RuleBook.meaning second.now) }
+    ensures { result ≡ agree (P.meaning first.now) (Q.meaning second.now) }
 {
     let n = first.items();
     first.edition() == second.edition() && n == second.items() && same_counts(first, second, n)
@@ -53,7 +46,7 @@ fn books_agree<P: RuleBook, Q: RuleBook>(first: &P, second: &Q) -> bool
 impl<P: RuleBook, Q: RuleBook> JointBook<P, Q> {
     // Whether these two books make a joint book.
     pub fn check(first: &P, second: &Q) -> Result<(), Refusal>
-        ensures { result ≡ joint_check (P.RuleBook.meaning first.now) (Q.RuleBook.meaning second.now) }
+        ensures { result ≡ joint_check (P.meaning first.now) (Q.meaning second.now) }
     {
         if books_agree(first, second) {
             Ok(())
@@ -64,7 +57,9 @@ impl<P: RuleBook, Q: RuleBook> JointBook<P, Q> {
 
     // The joint book of these two, or the blank book where they do not fit.
     pub fn new(first: P, second: Q) -> JointBook<P, Q>
-        ensures { ⟦<JointBook<P, Q> as RuleBook>⟧.meaning result ≡ joint (P.RuleBook.meaning first) (Q.RuleBook.meaning second) }
+        ensures first { result.first ≡ first }
+        ensures second { result.second ≡ second }
+        ensures meaning { ⟦<JointBook<P, Q> as RuleBook>⟧.meaning result ≡ joint (P.meaning first) (Q.meaning second) }
     {
         let fits = books_agree(&first, &second);
         JointBook {
@@ -76,13 +71,13 @@ impl<P: RuleBook, Q: RuleBook> JointBook<P, Q> {
 }
 
 impl<P: RuleBook, Q: RuleBook> RuleBook for JointBook<P, Q> {
-    ghost meaning = { λ b. joint (P.RuleBook.meaning b.first) (Q.RuleBook.meaning b.second) };
+    ghost meaning = { λ b. joint (P.meaning b.first) (Q.meaning b.second) };
 
-    ghost lawful = { λ b. joint_lawful (P.RuleBook.meaning b.first) (Q.RuleBook.meaning b.second) (P.RuleBook.lawful b.first) (Q.RuleBook.lawful b.second) };
+    ghost lawful = { λ b. joint_lawful (P.lawful b.first) (Q.lawful b.second) };
 
-    ghost items_most = { λ b. (joint_lawful (P.RuleBook.meaning b.first) (Q.RuleBook.meaning b.second) (P.RuleBook.lawful b.first) (Q.RuleBook.lawful b.second)).items_most };
+    ghost items_most = { λ b. (joint_lawful (P.lawful b.first) (Q.lawful b.second)).items_most };
 
-    ghost options_most = { λ b. (joint_lawful (P.RuleBook.meaning b.first) (Q.RuleBook.meaning b.second) (P.RuleBook.lawful b.first) (Q.RuleBook.lawful b.second)).options_most };
+    ghost options_most = { λ b. (joint_lawful (P.lawful b.first) (Q.lawful b.second)).options_most };
 
     fn edition(&self) -> u32 {
         if self.fits { self.first.edition() } else { 0 }

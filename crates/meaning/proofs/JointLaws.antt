@@ -47,5 +47,5 @@ module _ (m k : Meaning) (p : Lawful m) (q : Lawful k) where
       together_unlinked = both_free;
     }
 
-  pub joint_lawful : Lawful (joint m k)
-  joint_lawful = cond_both (agree m k) (both m k) blank Lawful both_lawful (λ e. blank_lawful)
+pub joint_lawful : {m k : Meaning} → Lawful m → Lawful k → Lawful (joint m k)
+joint_lawful {m} {k} p q = cond_both (agree m k) (both m k) blank Lawful (both_lawful m k p q) (λ e. blank_lawful)
