@@ -39,9 +39,7 @@ impl<'a> Parts for ClearanceParts<'a> {
 
     fn sizes_hold(&self) -> bool {
         let n = self.items;
-        self.counts.len() >= n
-            && self.starts.len() >= 32 * n
-            && self.gaps.len() >= n * (n - 1) / 2
+        self.counts.len() >= n && self.starts.len() >= 32 * n && self.gaps.len() >= n * (n - 1) / 2
     }
 
     fn contents_hold(&self) -> bool {
@@ -61,7 +59,9 @@ impl<'a> Parts for ClearanceParts<'a> {
 
     fn together(&self, i: usize, a: usize, j: usize, b: usize) -> bool {
         let clearance = SizedClearance { parts: *self };
-        let apart = clearance.green_start(i, a).abs_diff(clearance.green_start(j, b));
+        let apart = clearance
+            .green_start(i, a)
+            .abs_diff(clearance.green_start(j, b));
         apart >= clearance.gap_between(i, j)
     }
 }

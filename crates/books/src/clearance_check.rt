@@ -70,7 +70,8 @@ impl CountedClearance<'_> {
         requires { i < self.now.clearance.parts.items }
         ensures { let p = self.now.clearance.parts in result ≡ every (slice_index p.counts.now i) (green_right p.starts.now i) }
     {
-        (0..usize::from(self.clearance.parts.counts[i])).all(|a| self.clearance.green_start(i, a) <= 3599)
+        (0..usize::from(self.clearance.parts.counts[i])).all(|a| self.clearance.green_start(i, a)
+            <= 3599)
     }
 
     pub fn starts_hold(&self) -> bool

@@ -9,7 +9,7 @@ use crate::pair::pair_number;
 use bits::bit::has_bit;
 use meaning::parts::GridParts;
 
-// Parts of at most 32 items, with memory enough for them.
+// Parts of 1 to 32 items, with memory enough for them.
 #[derive(Clone, Copy)]
 pub struct SizedGrid<'a> {
     pub parts: GridParts<'a>,

@@ -77,7 +77,11 @@ impl<P: Parts> RuleBook for PartsBook<P> {
     }
 
     fn options(&self, i: usize) -> usize {
-        if i < self.parts.items() { self.parts.count(i) } else { 0 }
+        if i < self.parts.items() {
+            self.parts.count(i)
+        } else {
+            0
+        }
     }
 
     fn linked(&self, i: usize, j: usize) -> bool {
