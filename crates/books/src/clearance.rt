@@ -17,7 +17,7 @@ impl<'a> Parts for ClearanceParts<'a> {
 
     ghost contents = { clearance_contents };
 
-    ghost lawful = { λ p fits right. clearance_lawful p (fits.some, fits.few) right };
+    ghost lawful = { λ p sized right. clearance_lawful p (sized.some, sized.few) right };
 
     fn blank() -> ClearanceParts<'a> {
         ClearanceParts {
@@ -59,9 +59,8 @@ impl<'a> Parts for ClearanceParts<'a> {
 
     fn together(&self, i: usize, a: usize, j: usize, b: usize) -> bool {
         let clearance = SizedClearance { parts: *self };
-        let apart = clearance
-            .green_start(i, a)
-            .abs_diff(clearance.green_start(j, b));
-        apart >= clearance.gap_between(i, j)
+        let first = clearance.green_start(i, a);
+        let second = clearance.green_start(j, b);
+        first.abs_diff(second) >= clearance.gap_between(i, j)
     }
 }

@@ -3,7 +3,7 @@ ghost use Rattle.std.specs.Prelude.{◌≡◌, ◌<◌, ◌≤◌, true, slice_i
 ghost use Rattle.bits.specs.Below.{every};
 ghost use Rattle.meaning.specs.Clearance.{clearance_meaning, clearance_sizes, gap_of, gaps_right, green, green_right, greens_right};
 ghost use Rattle.meaning.specs.Limits.{counts_right};
-ghost use Rattle.meaning.specs.Parts.{Fits};
+ghost use Rattle.meaning.specs.Parts.{IsSized};
 
 use crate::pair::pair_number;
 use meaning::parts::ClearanceParts;
@@ -12,7 +12,7 @@ use meaning::parts::ClearanceParts;
 #[derive(Clone, Copy)]
 pub struct SizedClearance<'a> {
     pub parts: ClearanceParts<'a>,
-    ghost fits: { Fits (clearance_meaning parts) (clearance_sizes parts) },
+    ghost sized: { IsSized (clearance_meaning parts) (clearance_sizes parts) },
 }
 
 impl SizedClearance<'_> {
@@ -70,8 +70,8 @@ impl CountedClearance<'_> {
         requires { i < self.now.clearance.parts.items }
         ensures { let p = self.now.clearance.parts in result ≡ every (slice_index p.counts.now i) (green_right p.starts.now i) }
     {
-        (0..usize::from(self.clearance.parts.counts[i])).all(|a| self.clearance.green_start(i, a)
-            <= 3599)
+        let count = usize::from(self.clearance.parts.counts[i]);
+        (0..count).all(|a| self.clearance.green_start(i, a) <= 3599)
     }
 
     pub fn starts_hold(&self) -> bool

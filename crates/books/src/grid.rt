@@ -18,7 +18,7 @@ impl<'a> Parts for GridParts<'a> {
 
     ghost contents = { grid_contents };
 
-    ghost lawful = { λ p fits right. grid_lawful p (fits.some, fits.few) right };
+    ghost lawful = { λ p sized right. grid_lawful p (sized.some, sized.few) right };
 
     fn blank() -> GridParts<'a> {
         GridParts {

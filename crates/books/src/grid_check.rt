@@ -3,7 +3,7 @@ ghost use Rattle.std.specs.Prelude.{◌≡◌, ◌<◌, true, slice_index};
 ghost use Rattle.bits.specs.Below.{every};
 ghost use Rattle.meaning.specs.Grid.{grid_meaning, grid_sizes, link_bit, link_right, links_right, place, row_right, rows_right, same};
 ghost use Rattle.meaning.specs.Limits.{counts_right};
-ghost use Rattle.meaning.specs.Parts.{Fits};
+ghost use Rattle.meaning.specs.Parts.{IsSized};
 
 use crate::pair::pair_number;
 use bits::bit::has_bit;
@@ -13,7 +13,7 @@ use meaning::parts::GridParts;
 #[derive(Clone, Copy)]
 pub struct SizedGrid<'a> {
     pub parts: GridParts<'a>,
-    ghost fits: { Fits (grid_meaning parts) (grid_sizes parts) },
+    ghost sized: { IsSized (grid_meaning parts) (grid_sizes parts) },
 }
 
 impl SizedGrid<'_> {

@@ -1,8 +1,8 @@
-// What a kind of parts answers, so that books can be made of it. Only parts that fit are asked for more than their sizes.
+// What a kind of parts answers, so that books can be made of it. Only sized parts are asked for what they hold.
 ghost use Rattle.std.specs.Prelude.{◌≡◌, ◌<◌, ◌≤◌, Bool, true};
 ghost use Rattle.meaning.specs.Blank.{blank};
 ghost use Rattle.meaning.specs.Meaning.{Lawful, Meaning};
-ghost use Rattle.meaning.specs.Parts.{Fits};
+ghost use Rattle.meaning.specs.Parts.{IsSized};
 
 pub trait Parts: Copy {
     // What the parts mean where they are right.
@@ -14,7 +14,7 @@ pub trait Parts: Copy {
     ghost contents: { Self → Bool };
 
     // The laws of books, which each kind has to prove of right parts.
-    ghost lawful: { (p : Self) → Fits (meaning p) (sizes p) → contents p ≡ true → Lawful (meaning p) };
+    ghost lawful: { (p : Self) → IsSized (meaning p) (sizes p) → contents p ≡ true → Lawful (meaning p) };
 
     // The parts of the blank book.
     fn blank() -> Self
@@ -34,23 +34,23 @@ pub trait Parts: Copy {
         ensures { result ≡ sizes self.now };
 
     fn contents_hold(&self) -> bool
-        requires { Fits (meaning self.now) (sizes self.now) }
+        requires { IsSized (meaning self.now) (sizes self.now) }
         ensures { result ≡ contents self.now };
 
     // How many options item i has, which is there.
     fn count(&self, i: usize) -> usize
-        requires fits { Fits (meaning self.now) (sizes self.now) }
+        requires sized { IsSized (meaning self.now) (sizes self.now) }
         requires there { i < (meaning self.now).items }
         ensures { result ≡ (meaning self.now).options i };
 
     fn linked(&self, i: usize, j: usize) -> bool
-        requires fits { Fits (meaning self.now) (sizes self.now) }
+        requires sized { IsSized (meaning self.now) (sizes self.now) }
         requires first { i < (meaning self.now).items }
         requires second { j < (meaning self.now).items }
         ensures { result ≡ (meaning self.now).linked i j };
 
     fn together(&self, i: usize, a: usize, j: usize, b: usize) -> bool
-        requires fits { Fits (meaning self.now) (sizes self.now) }
+        requires sized { IsSized (meaning self.now) (sizes self.now) }
         requires right { contents self.now ≡ true }
         requires first { a < (meaning self.now).options i }
         requires second { b < (meaning self.now).options j }

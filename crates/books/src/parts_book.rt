@@ -1,7 +1,6 @@
 // The book made of parts of any kind.
 ghost use Rattle.std.specs.Prelude.{◌≡◌, ◌≤◌, true, ⊤};
-ghost use Rattle.meaning.specs.Blank.{blank};
-ghost use Rattle.meaning.specs.Parts.{Fits, parts_book, parts_check};
+ghost use Rattle.meaning.specs.Parts.{IsSized, parts_book, parts_check};
 
 use crate::limits::limits_hold;
 use crate::parts::Parts;
@@ -12,7 +11,7 @@ use std::alloc::AllocError;
 // Parts that the check accepts, or those of the blank book, whose edition is 0.
 pub struct PartsBook<P: Parts> {
     parts: P,
-    ghost fits: { Fits (P.meaning parts) (P.sizes parts) },
+    ghost sized: { IsSized (P.meaning parts) (P.sizes parts) },
     ghost right: { P.contents parts ≡ true },
     ghost edition_most: { (P.meaning parts).edition ≤ 9999 },
     ghost empty: { ((P.meaning parts).edition ≡ 0 → ((P.meaning parts).items ≡ 1) × ((P.meaning parts).options 0 ≡ 1)) },
@@ -62,11 +61,11 @@ impl<P: Parts> PartsBook<P> {
 impl<P: Parts> RuleBook for PartsBook<P> {
     ghost meaning = { λ b. P.meaning b.parts };
 
-    ghost lawful = { λ b. P.lawful b.parts b.fits b.right };
+    ghost lawful = { λ b. P.lawful b.parts b.sized b.right };
 
-    ghost items_most = { λ b. b.fits.few };
+    ghost items_most = { λ b. b.sized.few };
 
-    ghost options_most = { λ b. (P.lawful b.parts b.fits b.right).options_most };
+    ghost options_most = { λ b. (P.lawful b.parts b.sized b.right).options_most };
 
     fn edition(&self) -> u32 {
         self.parts.edition()

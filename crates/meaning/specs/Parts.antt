@@ -18,7 +18,7 @@ abbrev pub parts_book : Meaning → Bool → Bool → Meaning
 parts_book m sizes contents = if is_ok (parts_check m sizes contents) then m else blank
 
 -- 1 to 32 items, and memory enough for them
-pub record Fits (m : Meaning) (sizes : Bool) : Type 0 where
+pub record IsSized (m : Meaning) (sizes : Bool) : Type 0 where
   pub some : 1 ≤ m.items
   pub few : m.items ≤ 32
-  pub sized : sizes ≡ true
+  pub long : sizes ≡ true

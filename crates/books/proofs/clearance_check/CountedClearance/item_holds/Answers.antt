@@ -9,4 +9,4 @@ all-requires-clause-callable c =
     let h = counts_at c.args.self.now.clearance.parts.items c.args.self.now.clearance.parts.counts.now c.args.self.now.counted c.args.i c.requires in grind serving
 
 pub returns : goal.returns
-returns c = rw (← c.from.ensures) (all_below c.from.result _ _ _ _ c.all.ensures.ran (λ x b q k. search rules))
+returns c = rw (← c.from-count.ensures) (all_below c.from-count.result _ _ _ _ c.all.ensures.ran (λ x b q k. search rules))
