@@ -1,15 +1,8 @@
 // Clearance books: starts and gaps at their limits, the smallest and the largest, and the blank book.
+use crate::checked;
 use books::clearance::ClearanceBook;
 use books::rule::RuleBook;
 use meaning::parts::ClearanceParts;
-
-// The number of the check's refusal, or 0.
-fn refusal(parts: ClearanceParts<'_>) -> u32 {
-    match ClearanceBook::check(parts) {
-        Ok(()) => 0,
-        Err(e) => e.number(),
-    }
-}
 
 fn parts<'a>(counts: &'a [u8], starts: &'a [u16], gaps: &'a [u16]) -> ClearanceParts<'a> {
     ClearanceParts {
@@ -35,7 +28,7 @@ fn starts(first: [u16; 2], second: [u16; 2]) -> [u16; 64] {
 fn twenty_seconds_apart(rt: HostRuntime) {
     let starts = &starts([0, 30], [10, 40]);
     let parts = parts(&[2, 2], starts, &[20]);
-    assert_eq!(rt; refusal(parts), 0);
+    assert_eq!(rt; checked(parts), Ok(()));
     let book = ClearanceBook::new(parts);
     assert!(rt; book.edition() == 7 && book.items() == 2);
     assert!(rt; book.options(1) == 2 && book.options(2) == 0);
@@ -56,62 +49,62 @@ fn gaps_at_their_limits(rt: HostRuntime) {
     assert!(rt; close.linked(0, 1) && !close.together(0, 0, 1, 0) && close.together(0, 1, 1, 0));
     let never = ClearanceBook::new(parts(&[2, 2], starts, &[3600]));
     assert!(rt; never.linked(0, 1) && !never.together(0, 0, 1, 1));
-    assert_eq!(rt; refusal(parts(&[2, 2], starts, &[3601])), 10);
+    assert_eq!(rt; checked(parts(&[2, 2], starts, &[3601])), Err(10));
 }
 
 #[test]
 fn starts_of_missing_options_do_not_matter(rt: HostRuntime) {
     let starts = &starts([0, 3600], [0, 3599]);
-    assert_eq!(rt; refusal(parts(&[2, 2], starts, &[1])), 10);
-    assert_eq!(rt; refusal(parts(&[1, 2], starts, &[1])), 0);
+    assert_eq!(rt; checked(parts(&[2, 2], starts, &[1])), Err(10));
+    assert_eq!(rt; checked(parts(&[1, 2], starts, &[1])), Ok(()));
 }
 
 #[test]
 fn limits_then_sizes_then_contents(rt: HostRuntime) {
     let starts = &starts([0, 0], [0, 0]);
-    assert_eq!(rt; refusal(parts(&[0, 2], starts, &[1])), 10);
-    assert_eq!(rt; refusal(parts(&[33, 2], starts, &[1])), 10);
-    assert_eq!(rt; refusal(parts(&[33], starts, &[1])), 12);
-    assert_eq!(rt; refusal(parts(&[33, 2], &[0; 63], &[1])), 12);
+    assert_eq!(rt; checked(parts(&[0, 2], starts, &[1])), Err(10));
+    assert_eq!(rt; checked(parts(&[33, 2], starts, &[1])), Err(10));
+    assert_eq!(rt; checked(parts(&[33], starts, &[1])), Err(12));
+    assert_eq!(rt; checked(parts(&[33, 2], &[0; 63], &[1])), Err(12));
     let few_gaps = parts(&[33, 2], starts, &[]);
-    assert_eq!(rt; refusal(few_gaps), 12);
+    assert_eq!(rt; checked(few_gaps), Err(12));
     assert_eq!(rt;
-        refusal(ClearanceParts {
+        checked(ClearanceParts {
             edition: 10000,
             ..few_gaps
         }),
-        10
+        Err(10)
     );
     assert_eq!(rt;
-        refusal(ClearanceParts {
+        checked(ClearanceParts {
             items: 33,
             ..few_gaps
         }),
-        10
+        Err(10)
     );
 }
 
 #[test]
 fn one_item_and_thirty_two(rt: HostRuntime) {
     assert_eq!(rt;
-        refusal(ClearanceParts {
+        checked(ClearanceParts {
             items: 1,
             ..parts(&[32], &[0; 32], &[])
         }),
-        0
+        Ok(())
     );
     let most = ClearanceParts {
         items: 32,
         ..parts(&[1; 32], &[0; 1024], &[1; 496])
     };
-    assert_eq!(rt; refusal(most), 0);
+    assert_eq!(rt; checked(most), Ok(()));
     assert!(rt; ClearanceBook::new(most).linked(30, 31));
     assert_eq!(rt;
-        refusal(ClearanceParts {
+        checked(ClearanceParts {
             gaps: &[1; 495],
             ..most
         }),
-        12
+        Err(12)
     );
 }
 

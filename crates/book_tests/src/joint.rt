@@ -1,17 +1,10 @@
 // Joint books: of a manual and a site, of joint books again, and of books that do not fit.
+use crate::numbered;
 use books::clearance::ClearanceBook;
 use books::grid::GridBook;
 use books::joint::JointBook;
 use books::rule::RuleBook;
 use meaning::parts::{ClearanceParts, GridParts};
-
-// The number of the check's refusal, or 0.
-fn refusal<P: RuleBook, Q: RuleBook>(first: &P, second: &Q) -> u32 {
-    match JointBook::check(first, second) {
-        Ok(()) => 0,
-        Err(e) => e.number(),
-    }
-}
 
 // The manual links items 0 and 1, of which only the unlike options stand together.
 fn manual_rows() -> [u32; 96] {
@@ -66,7 +59,10 @@ fn free<'a>(edition: u32, items: usize, counts: &'a [u8]) -> GridBook<'a> {
 #[test]
 fn manual_and_site(rt: HostRuntime) {
     let (rows, starts) = (&manual_rows(), &site_starts());
-    assert_eq!(rt; refusal(&manual(rows), &site(starts)), 0);
+    assert_eq!(rt;
+        numbered(JointBook::check(&manual(rows), &site(starts))),
+        Ok(())
+    );
     let book = JointBook::new(manual(rows), site(starts));
     assert!(rt; book.edition() == 7 && book.items() == 3);
     assert!(rt; book.options(2) == 2 && book.options(3) == 0);
@@ -94,10 +90,22 @@ fn joint_of_joints(rt: HostRuntime) {
 #[test]
 fn books_that_do_not_fit(rt: HostRuntime) {
     let rows = &manual_rows();
-    assert_eq!(rt; refusal(&manual(rows), &free(7, 3, &[2, 2, 2])), 0);
-    assert_eq!(rt; refusal(&manual(rows), &free(8, 3, &[2, 2, 2])), 13);
-    assert_eq!(rt; refusal(&manual(rows), &free(7, 2, &[2, 2, 2])), 13);
-    assert_eq!(rt; refusal(&manual(rows), &free(7, 3, &[2, 2, 3])), 13);
+    assert_eq!(rt;
+        numbered(JointBook::check(&manual(rows), &free(7, 3, &[2, 2, 2]))),
+        Ok(())
+    );
+    assert_eq!(rt;
+        numbered(JointBook::check(&manual(rows), &free(8, 3, &[2, 2, 2]))),
+        Err(13)
+    );
+    assert_eq!(rt;
+        numbered(JointBook::check(&manual(rows), &free(7, 2, &[2, 2, 2]))),
+        Err(13)
+    );
+    assert_eq!(rt;
+        numbered(JointBook::check(&manual(rows), &free(7, 3, &[2, 2, 3]))),
+        Err(13)
+    );
     let book = JointBook::new(manual(rows), free(7, 3, &[2, 2, 3]));
     assert!(rt; book.edition() == 0 && book.items() == 1);
     assert!(rt; book.options(0) == 1 && book.options(1) == 0 && !book.linked(0, 1));
@@ -106,7 +114,10 @@ fn books_that_do_not_fit(rt: HostRuntime) {
 
 #[test]
 fn blank_books_fit(rt: HostRuntime) {
-    assert_eq!(rt; refusal(&manual(&[]), &site(&[])), 0);
+    assert_eq!(rt;
+        numbered(JointBook::check(&manual(&[]), &site(&[]))),
+        Ok(())
+    );
     let book = JointBook::new(manual(&[]), site(&[]));
     assert!(rt; book.edition() == 0 && book.items() == 1);
     assert!(rt; book.options(0) == 1 && book.options(1) == 0 && !book.linked(0, 0));

@@ -1,29 +1,43 @@
 // The joint book: two rule books of any kind, read as one.
 ghost use Rattle.std.specs.Prelude.{◌≡◌, nat_eq};
 ghost use Rattle.bits.specs.Below.{every};
-ghost use Rattle.meaning.specs.Joint.{agree, joined, joint, joint_check};
-ghost use Rattle.meaning.proofs.JointLaws.{joined_lawful};
+ghost use Rattle.meaning.specs.Joint.{agree, joint, joint_check};
+ghost use Rattle.meaning.proofs.JointLaws.{joint_lawful};
 
 use crate::rule::RuleBook;
 use meaning::refusal::Refusal;
+use std::alloc::AllocError;
 
 // Whether the two books agree is found out once, when the joint book is made.
-#[derive(Clone, Copy)]
 pub struct JointBook<P: RuleBook, Q: RuleBook> {
     first: P,
     second: Q,
     fits: bool,
+    ghost told: { fits ≡ agree (P.meaning first) (Q.meaning second) },
+}
+
+impl<P: RuleBook + Copy, Q: RuleBook + Copy> Copy for JointBook<P, Q> {}
+
+impl<P: RuleBook + Clone, Q: RuleBook + Clone> Clone for JointBook<P, Q> {
+    ghost is_clone = { λ x y. P.is_clone x.first y.first × Q.is_clone x.second y.second };
+
+    ghost is_infallible = { λ x. P.is_infallible x.first × Q.is_infallible x.second };
+
+    // Clones are asked anew whether they agree, since a clone of a book may be another book.
+    fn clone(&self) -> Result<JointBook<P, Q>, AllocError> {
+        Ok(JointBook::new(self.first.clone()?, self.second.clone()?))
+    }
 }
 
 // The first n items have as many options in one book as in the other.
 fn same_counts<P: RuleBook, Q: RuleBook>(first: &P, second: &Q, n: usize) -> bool
-    ensures { result ≡ every n (λ i. nat_eq ((P.RuleBook.meaning first.now).options i) ((Q.RuleBook.meaning second.now).options i)) }
+    ensures { result ≡ every n (λ i. nat_eq ((P.meaning first.now).options i) ((Q.meaning second.now).options i)) }
 {
     (0..n).all(|i| first.options(i) == second.options(i))
 }
 
 fn books_agree<P: RuleBook, Q: RuleBook>(first: &P, second: &Q) -> bool
-    ensures { result ≡ agree (P.RuleBook.meaning first.now) (Q.RuleBook.meaning second.now) }
+    ensures { result ≡ agree (P.meaning first.now) (Q.meaning second.now) }
 {
     let n = first.items();
     first.edition() == second.edition() && n == second.items() && same_counts(first, second, n)
@@ -32,7 +46,7 @@ fn books_agree<P: RuleBook, Q: RuleBook>(first: &P, second: &Q) -> bool
 impl<P: RuleBook, Q: RuleBook> JointBook<P, Q> {
     // Whether these two books make a joint book.
     pub fn check(first: &P, second: &Q) -> Result<(), Refusal>
-        ensures { result ≡ joint_check (P.RuleBook.meaning first.now) (Q.RuleBook.meaning second.now) }
+        ensures { result ≡ joint_check (P.meaning first.now) (Q.meaning second.now) }
     {
         if books_agree(first, second) {
             Ok(())
@@ -43,7 +57,9 @@ impl<P: RuleBook, Q: RuleBook> JointBook<P, Q> {
 
     // The joint book of these two, or the blank book where they do not fit.
     pub fn new(first: P, second: Q) -> JointBook<P, Q>
-        ensures { joined result.fits (P.RuleBook.meaning result.first) (Q.RuleBook.meaning result.second) ≡ joint (P.RuleBook.meaning first) (Q.RuleBook.meaning second) }
+        ensures first { result.first ≡ first }
+        ensures second { result.second ≡ second }
+        ensures meaning { ⟦<JointBook<P, Q> as RuleBook>⟧.meaning result ≡ joint (P.meaning first) (Q.meaning second) }
     {
         let fits = books_agree(&first, &second);
         JointBook {
@@ -55,14 +71,13 @@ impl<P: RuleBook, Q: RuleBook> JointBook<P, Q> {
 }
 
 impl<P: RuleBook, Q: RuleBook> RuleBook for JointBook<P, Q> {
-    // The second book is heard only of the first's items and where it links them, which is lawful for any two books.
-    ghost meaning = { λ b. joined b.fits (P.RuleBook.meaning b.first) (Q.RuleBook.meaning b.second) };
+    ghost meaning = { λ b. joint (P.meaning b.first) (Q.meaning b.second) };
 
-    ghost lawful = { λ b. joined_lawful (P.RuleBook.meaning b.first) (Q.RuleBook.meaning b.second) (P.RuleBook.lawful b.first) (Q.RuleBook.lawful b.second) b.fits };
+    ghost lawful = { λ b. joint_lawful (P.lawful b.first) (Q.lawful b.second) };
 
-    ghost items_most = { λ b. (joined_lawful (P.RuleBook.meaning b.first) (Q.RuleBook.meaning b.second) (P.RuleBook.lawful b.first) (Q.RuleBook.lawful b.second) b.fits).items_most };
+    ghost items_most = { λ b. (joint_lawful (P.lawful b.first) (Q.lawful b.second)).items_most };
 
-    ghost options_most = { λ b. (joined_lawful (P.RuleBook.meaning b.first) (Q.RuleBook.meaning b.second) (P.RuleBook.lawful b.first) (Q.RuleBook.lawful b.second) b.fits).options_most };
+    ghost options_most = { λ b. (joint_lawful (P.lawful b.first) (Q.lawful b.second)).options_most };
 
     fn edition(&self) -> u32 {
         if self.fits { self.first.edition() } else { 0 }
@@ -83,18 +98,13 @@ impl<P: RuleBook, Q: RuleBook> RuleBook for JointBook<P, Q> {
     }
 
     fn linked(&self, i: usize, j: usize) -> bool {
-        if !self.fits {
-            return false;
-        }
-        let n = self.first.items();
-        self.first.linked(i, j) || (i < n && j < n && self.second.linked(i, j))
+        self.fits && (self.first.linked(i, j) || self.second.linked(i, j))
     }
 
     fn together(&self, i: usize, a: usize, j: usize, b: usize) -> bool {
         if !self.fits {
             return i == 0 && a == 0 && j == 0 && b == 0;
         }
-        self.first.together(i, a, j, b)
-            && (!self.second.linked(i, j) || self.second.together(i, a, j, b))
+        self.first.together(i, a, j, b) && self.second.together(i, a, j, b)
     }
 }

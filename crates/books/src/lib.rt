@@ -8,4 +8,6 @@ mod grid_check;
 pub mod joint;
 mod limits;
 mod pair;
+pub mod parts;
+pub mod parts_book;
 pub mod rule;

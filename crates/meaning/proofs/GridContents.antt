@@ -4,7 +4,7 @@ use Rattle.std.proofs.lemmas.Bool.{and_parts}
 use Rattle.std.proofs.lemmas.Bool.Decides.{nat_tests}
 use Rattle.bits.specs.Below.{every}
 use Rattle.bits.proofs.Belows.{every_at}
-use Rattle.meaning.specs.Grid.{links_right, link_right, link_bit, same, contents_right, rows_right}
+use Rattle.meaning.specs.Grid.{links_right, link_right, link_bit, same, contents_right, grid_contents, rows_right}
 use Rattle.meaning.specs.Limits.{counts_right}
 use Rattle.meaning.specs.declared.parts.GridParts.{GridParts}
 
@@ -14,7 +14,7 @@ same_eq true false e = sym e
 same_eq false true e = e
 same_eq false false e = refl
 
-module _ (p : GridParts) (ok : contents_right p.items p.counts.now p.links.now p.rows.now ≡ true) where
+module _ (p : GridParts) (ok : grid_contents p ≡ true) where
   abbrev n : ℕ
   n = p.items
 

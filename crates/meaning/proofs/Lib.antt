@@ -1,5 +1,4 @@
 pub mod Starts
-pub mod Equal
 pub mod BlankLaws
 pub mod OptionCounts
 pub mod GridContents

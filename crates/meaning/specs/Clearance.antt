@@ -4,29 +4,19 @@
 -- apart x y: how far the starts x and y are from each other
 -- .._right: a start, a gap has nothing that the check forbids
 -- clearance_of: the meaning that an edition, a number of items, counts, starts and gaps give
--- clearance_meaning: what checked parts mean; clearance_check: the check's answer; clearance_book: the book made of any parts
-use Rattle.std.specs.Prelude.{ℕ, ◌+◌, ◌-◌, ◌*◌, ◌≤◌, Bool, cond, ◌&&◌, List, length, is_ok, Ok, Err, Result, nat_le, nat_lt, slice_index}
+-- clearance_meaning: what checked parts mean; clearance_sizes, clearance_contents: the two tests of a clearance book's parts
+use Rattle.std.specs.Prelude.{ℕ, ◌+◌, ◌-◌, ◌*◌, Bool, if◌then◌else◌, ◌&&◌, List, length, nat_le, nat_lt, slice_index}
 use Rattle.bits.specs.Below.{every}
-use Rattle.meaning.specs.Blank.{blank}
-use Rattle.meaning.specs.Limits.{counts_right, limits_right, options_in}
+use Rattle.meaning.specs.Limits.{counts_right, options_in}
 use Rattle.meaning.specs.Meaning.{Meaning}
 use Rattle.meaning.specs.Pairs.{pair, pairs_for}
 use Rattle.meaning.specs.declared.parts.ClearanceParts.{ClearanceParts}
-use Rattle.meaning.specs.declared.refusal.Refusal.{Refusal}
-use Rattle.meaning.specs.declared.refusal.Refusal.TheVariants.{OutOfLimits, MemoryShort}
-
--- at most 32 items, and counts, starts and gaps enough for them
-pub record Sized (p : ClearanceParts) : Type 0 where
-  pub few : p.items ≤ 32
-  pub counts_long : p.items ≤ length p.counts.now
-  pub starts_long : 32 * p.items ≤ length p.starts.now
-  pub gaps_long : pairs_for p.items ≤ length p.gaps.now
 
 abbrev pub green : List ℕ → ℕ → ℕ → ℕ
 green starts i a = slice_index starts (32 * i + a)
 
 abbrev pub gap_of : List ℕ → ℕ → ℕ → ℕ
-gap_of gaps i j = cond (nat_lt i j) (slice_index gaps (pair i j)) (cond (nat_lt j i) (slice_index gaps (pair j i)) 0)
+gap_of gaps i j = if nat_lt i j then slice_index gaps (pair i j) else (if nat_lt j i then slice_index gaps (pair j i) else 0)
 
 abbrev pub apart : ℕ → ℕ → ℕ
 apart x y = (x - y) + (y - x)
@@ -50,15 +40,6 @@ contents_right n counts starts gaps = counts_right n counts && (greens_right n c
 abbrev pub sizes_right : ℕ → List ℕ → List ℕ → List ℕ → Bool
 sizes_right n counts starts gaps = (nat_le n (length counts) && nat_le (32 * n) (length starts)) && nat_le (pairs_for n) (length gaps)
 
--- the first condition that fails decides: limits, then sizes, then contents
-abbrev pub clearance_check : ClearanceParts → Result (Unit {0}) Refusal
-clearance_check p =
-    cond (limits_right p.edition p.items)
-    (cond (sizes_right p.items p.counts.now p.starts.now p.gaps.now)
-    (cond (contents_right p.items p.counts.now p.starts.now p.gaps.now) (Ok tt) (Err (OutOfLimits 0)))
-    (Err MemoryShort))
-    (Err (OutOfLimits 0))
-
 -- a gap of 0 links nothing, and any two starts are as far apart as that
 abbrev pub clearance_of : ℕ → ℕ → List ℕ → List ℕ → List ℕ → Meaning
 clearance_of edition n counts starts gaps = record {
@@ -72,5 +53,8 @@ clearance_of edition n counts starts gaps = record {
 abbrev pub clearance_meaning : ClearanceParts → Meaning
 clearance_meaning p = clearance_of p.edition p.items p.counts.now p.starts.now p.gaps.now
 
-abbrev pub clearance_book : ClearanceParts → Meaning
-clearance_book p = cond (is_ok (clearance_check p)) (clearance_meaning p) blank
+abbrev pub clearance_sizes : ClearanceParts → Bool
+clearance_sizes p = sizes_right p.items p.counts.now p.starts.now p.gaps.now
+
+abbrev pub clearance_contents : ClearanceParts → Bool
+clearance_contents p = contents_right p.items p.counts.now p.starts.now p.gaps.now

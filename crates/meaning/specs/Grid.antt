@@ -3,17 +3,16 @@
 -- link_bit, row_bit: what a link word and a row word say
 -- .._right: a link word, a row word has nothing that the check forbids
 -- grid_of: the meaning that an edition, a number of items, counts, link words and row words give
--- grid_meaning: what checked parts mean; grid_check: the check's answer; grid_book: the book made of any parts
-use Rattle.std.specs.Prelude.{ℕ, ◌+◌, ◌-◌, ◌*◌, ◌^◌, ◌≤◌, Bool, true, false, cond, not, ◌&&◌, ◌||◌, List, length, is_ok, Ok, Err, Result, ◌==◌, nat_le, nat_lt, slice_index}
+-- grid_meaning: what checked parts mean; grid_sizes, grid_contents: the two tests of a grid book's parts; grid_check: the check's answer
+use Rattle.std.specs.Prelude.{ℕ, ◌+◌, ◌-◌, ◌*◌, ◌^◌, Bool, true, false, if◌then◌else◌, not, ◌&&◌, ◌||◌, List, length, Result, ◌==◌, nat_le, nat_lt, slice_index}
 use Rattle.bits.specs.Below.{every}
 use Rattle.bits.specs.Bits.{bit}
-use Rattle.meaning.specs.Blank.{blank}
-use Rattle.meaning.specs.Limits.{counts_right, limits_right, options_in}
+use Rattle.meaning.specs.Limits.{counts_right, options_in}
 use Rattle.meaning.specs.Meaning.{Meaning}
 use Rattle.meaning.specs.Pairs.{pair}
+use Rattle.meaning.specs.Parts.{parts_check}
 use Rattle.meaning.specs.declared.parts.GridParts.{GridParts}
 use Rattle.meaning.specs.declared.refusal.Refusal.{Refusal}
-use Rattle.meaning.specs.declared.refusal.Refusal.TheVariants.{OutOfLimits, MemoryShort}
 
 abbrev pub place : ℕ → ℕ → ℕ → ℕ
 place i a j = 32 * pair i j + a
@@ -21,13 +20,6 @@ place i a j = 32 * pair i j + a
 -- how many row words n items take
 abbrev pub rows_for : ℕ → ℕ
 rows_for n = 16 * (n * (n - 1))
-
--- at most 32 items, and counts, links and rows enough for them
-pub record Sized (p : GridParts) : Type 0 where
-  pub few : p.items ≤ 32
-  pub counts_long : p.items ≤ length p.counts.now
-  pub links_long : p.items ≤ length p.links.now
-  pub rows_long : rows_for p.items ≤ length p.rows.now
 
 abbrev pub link_bit : List ℕ → ℕ → ℕ → Bool
 link_bit links i j = bit (slice_index links i) j
@@ -46,7 +38,9 @@ link_right n links i = (nat_lt (slice_index links i) (2 ^ n) && not (link_bit li
 -- of linked items and an existing option: no bit for a missing option; else 0
 abbrev pub row_right : List ℕ → List ℕ → List ℕ → ℕ → ℕ → ℕ → Bool
 row_right counts links rows j i a =
-    cond (link_bit links i j && nat_lt a (slice_index counts i)) (nat_lt (slice_index rows (place i a j)) (2 ^ slice_index counts j)) (slice_index rows (place i a j) == 0)
+    if link_bit links i j && nat_lt a (slice_index counts i)
+    then nat_lt (slice_index rows (place i a j)) (2 ^ slice_index counts j)
+    else slice_index rows (place i a j) == 0
 
 abbrev pub links_right : ℕ → List ℕ → Bool
 links_right n links = every n (link_right n links)
@@ -60,15 +54,6 @@ contents_right n counts links rows = counts_right n counts && (links_right n lin
 abbrev pub sizes_right : ℕ → List ℕ → List ℕ → List ℕ → Bool
 sizes_right n counts links rows = (nat_le n (length counts) && nat_le n (length links)) && nat_le (rows_for n) (length rows)
 
--- the first condition that fails decides: limits, then sizes, then contents
-abbrev pub grid_check : GridParts → Result (Unit {0}) Refusal
-grid_check p =
-    cond (limits_right p.edition p.items)
-    (cond (sizes_right p.items p.counts.now p.links.now p.rows.now)
-    (cond (contents_right p.items p.counts.now p.links.now p.rows.now) (Ok tt) (Err (OutOfLimits 0)))
-    (Err MemoryShort))
-    (Err (OutOfLimits 0))
-
 abbrev pub grid_of : ℕ → ℕ → List ℕ → List ℕ → List ℕ → Meaning
 grid_of edition n counts links rows = record {
   edition = edition;
@@ -76,11 +61,17 @@ grid_of edition n counts links rows = record {
   options = options_in n counts;
   linked = λ i j. (nat_lt i n && nat_lt j n) && link_bit links i j;
   together = λ i a j b. (nat_lt a (options_in n counts i) && nat_lt b (options_in n counts j))
-      && (not (link_bit links i j) || cond (nat_lt i j) (row_bit rows i a j b) (row_bit rows j b i a));
+      && (not (link_bit links i j) || (if nat_lt i j then row_bit rows i a j b else row_bit rows j b i a));
 }
 
 abbrev pub grid_meaning : GridParts → Meaning
 grid_meaning p = grid_of p.edition p.items p.counts.now p.links.now p.rows.now
 
-abbrev pub grid_book : GridParts → Meaning
-grid_book p = cond (is_ok (grid_check p)) (grid_meaning p) blank
+abbrev pub grid_sizes : GridParts → Bool
+grid_sizes p = sizes_right p.items p.counts.now p.links.now p.rows.now
+
+abbrev pub grid_contents : GridParts → Bool
+grid_contents p = contents_right p.items p.counts.now p.links.now p.rows.now
+
+abbrev pub grid_check : GridParts → Result (Unit {0}) Refusal
+grid_check p = parts_check (grid_meaning p) (grid_sizes p) (grid_contents p)

@@ -2,6 +2,7 @@ pub mod Refusals
 pub mod Meaning
 pub mod Blank
 pub mod Limits
+pub mod Parts
 pub mod Pairs
 pub mod Grid
 pub mod Clearance

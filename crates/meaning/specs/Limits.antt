@@ -2,7 +2,7 @@
 -- within x most: the number x lies within 1 to most
 -- .._right: an edition with n items, a count, the counts of n items keep the limits
 -- options_in: how many options item i has by the counts of n items
-use Rattle.std.specs.Prelude.{ℕ, Bool, cond, ◌&&◌, List, nat_le, nat_lt, slice_index}
+use Rattle.std.specs.Prelude.{ℕ, Bool, if◌then◌else◌, ◌&&◌, List, nat_le, nat_lt, slice_index}
 use Rattle.bits.specs.Below.{every}
 
 abbrev pub within : ℕ → ℕ → Bool
@@ -18,4 +18,4 @@ abbrev pub counts_right : ℕ → List ℕ → Bool
 counts_right n counts = every n (count_right counts)
 
 abbrev pub options_in : ℕ → List ℕ → ℕ → ℕ
-options_in n counts i = cond (nat_lt i n) (slice_index counts i) 0
+options_in n counts i = if nat_lt i n then slice_index counts i else 0

@@ -1,0 +1,6 @@
+use Rattle.std.proofs.Common.{rules}
+use Rattle.bits.proofs.Ranges.{all_below}
+use Rattle.books.proofs.grid_check.CountedGrid.pair_holds.Goals as goal
+
+pub returns : goal.returns
+returns c = all_below 32 _ _ _ _ c.all.ensures.ran (λ x b q k. search rules)
