@@ -12,10 +12,11 @@ use Rattle.meaning.specs.Meaning.{Meaning, Lawful}
 use Rattle.levels.specs.Sets.{words}
 use Rattle.levels.specs.Levels.{Linked}
 use Rattle.levels.specs.Counts.{partners}
-use Rattle.levels.specs.Tests.{partner_test, witness_test}
+use Rattle.levels.specs.Tests.{partner_test, third_test, witness_test}
 use Rattle.levels.specs.Counted.{place}
 use Rattle.propagation.specs.Supports.{Supports, SupportsBelow}
 use Rattle.propagation.proofs.Bytes.{at_place}
+use Rattle.propagation.proofs.Testing.{third_links}
 
 -- Bits below n of the word t are what f says, and it has none from there on.
 abbrev pub Bits : (ℕ → Bool) → (ℕ → Bool) → ℕ → Type 0
@@ -95,21 +96,22 @@ module _ (m : Meaning) (law : Lawful m) where
       and_no false = refl
 
   -- the bit of a partner in the word that is shared with the set
-  pub partner_word : (rows ws : List ℕ) (i a j b : ℕ) → Supports m rows → i < m.items → a < 32 → Linked m i j
+  pub partner_word : (rows ws : List ℕ) (i a j b : ℕ) → Supports m rows → (i < m.items) × (a < 32) → Linked m i j
       → bit (bit_and (get_or rows (place i a j) 0) (get_or ws j 0)) b ≡ partner_test m (words ws) i a j b
-  partner_word rows ws i a j b sup il al l =
+  partner_word rows ws i a j b sup ia l =
       let most = law.items_most in
-      let jl = l.0 in
       bit_of_and (get_or rows (place i a j) 0) (get_or ws j 0) b
-      ∙ (ap (λ (z : Bool). z && words ws j b) (sup i a j b il al l (omega arith)) ∙ and_swap (m.together i a j b) (words ws j b))
+      ∙ (ap (λ (z : Bool). z && words ws j b) (sup i a j b ia.0 ia.1 l (omega (arith, most, ia.0, ia.1, l.0))) ∙ and_swap (m.together i a j b) (words ws j b))
 
   -- the witnesses on a third item are the bits that two words share with the set
-  module _ (n : ℕ) (rows ws : List ℕ) (i a j b k : ℕ) (sup : SupportsBelow m n rows) (il : i < m.items) (al : a < 32) (jl : j < m.items) (bl : b < 32)
-      (ik : Linked m i k) (jk : Linked m j k) (before : place i a k < n) (second : place j b k < n) where
+  module _ (rows ws : List ℕ) (i a j b k : ℕ) (sup : Supports m rows) (ia : (i < m.items) × (a < 32)) (jb : (j < m.items) × (b < 32)) (kl : k < m.items)
+      (third : T (third_test m i j k)) where
     two : (w : ℕ) → (words ws k w && (bit (get_or rows (place i a k) 0) w && bit (get_or rows (place j b k) 0) w)) ≡ witness_test m (words ws) i a j b k w
     two w =
-        ap (λ (z : Bool). words ws k w && (z && bit (get_or rows (place j b k) 0) w)) (sup i a k w il al ik before)
-        ∙ ap (λ (z : Bool). words ws k w && (m.together i a k w && z)) (sup j b k w jl bl jk second)
+        let ls = third_links m i j k third in
+        let most = law.items_most in
+        ap (λ (z : Bool). words ws k w && (z && bit (get_or rows (place j b k) 0) w)) (sup i a k w ia.0 ia.1 (kl, ls.0) (omega (arith, most, ia.0, ia.1, kl)))
+        ∙ ap (λ (z : Bool). words ws k w && (m.together i a k w && z)) (sup j b k w jb.0 jb.1 (kl, ls.1) (omega (arith, most, jb.0, jb.1, kl)))
 
     pub witness_word : (r : Bool) → T r ↔ ((w : ℕ) × T (words ws k w && (bit (get_or rows (place i a k) 0) w && bit (get_or rows (place j b k) 0) w)))
         → r ≡ some (m.options k) (witness_test m (words ws) i a j b k)

@@ -23,6 +23,11 @@ pub if_all : (a b : Bool) → (T a → b ≡ true) → if_then a b ≡ true
 if_all true b h = h tt
 if_all false b h = refl
 
+-- what a test answers where the condition holds, and where it does not
+pub if_then_is : (a : Bool) {b x : Bool} → (T a → x ≡ b) → ((T a → ⊥) → x ≡ true) → x ≡ if_then a b
+if_then_is true yes' no' = yes' tt
+if_then_is false yes' no' = no' (λ t. t)
+
 pub third_links : (m : Meaning) (i j k : ℕ) → T (third_test m i j k) → T (m.linked i k) × T (m.linked j k)
 third_links m i j k t =
     let u : T (m.linked i k && m.linked j k) = and_r (not (eqb k j)) (m.linked i k && m.linked j k) (and_r (not (eqb k i)) _ t) in

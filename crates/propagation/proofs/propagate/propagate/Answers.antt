@@ -30,7 +30,6 @@ settle-requires g c =
     let s : Set = words c.args.domains.now in
     let room : ℕ = g.O.WaitingList.room c.args.options.now in
     record {
-      known = c.fill_supports.ensures;
       holds = record {
         sound = sound_start c.args.c m d c.fill_counts.new.counts refl (omega (arith, c.requires.long, c.fill_counts.auto.counts)) c.requires.there (support_start m law s c.fill_counts.new.counts c.fill_counts.ensures.first)
             (λ x xl. c.mark_all.ensures.done x (omega (arith, c.items.ensures, xl)));
