@@ -48,7 +48,7 @@ pub fn mark_linked<B: RuleBook, I: WaitingList<u8>>(
     }
 }
 
-// Marks all n items.
+// Marks all n items. It shares no test with mark_linked: of what a closure answers a clause can say only that it may.
 pub fn mark_all<I: WaitingList<u8>>(n: usize, marked: &mut u32, items: &mut I)
     requires few { n ≤ 32 }
     requires marks { Marks n (bit marked.old) (I.WaitingList.waits items.old) (I.WaitingList.room items.old) }
