@@ -43,8 +43,8 @@ impl<B: RuleBook> Screening<'_, B> {
         ensures first { (n : ℕ) → n < 1024 * (B.RuleBook.meaning self.now.book.now).items → slice_index counts.new n ≡ count_at (B.RuleBook.meaning self.now.book.now) (words set.now) n }
         ensures past { Past (B.RuleBook.meaning self.now.book.now) counts.old counts.new }
     {
-        for n in 0..1024 * self.book.items() {
-            counts[n] = self.count_of(set, n);
+        for (n, count) in counts[..1024 * self.book.items()].iter_mut().enumerate() {
+            *count = self.count_of(set, n);
         }
     }
 }
@@ -55,9 +55,9 @@ pub fn clear_rest<B: RuleBook>(book: &B, set: &[u32; 32], counts: &mut [u8])
     ensures first { (n : ℕ) → n < 1024 * (B.RuleBook.meaning book.now).items → slice_index counts.new n ≡ (if used (B.RuleBook.meaning book.now) (words set.now) n then slice_index counts.old n else 0) }
     ensures past { Past (B.RuleBook.meaning book.now) counts.old counts.new }
 {
-    for n in 0..1024 * book.items() {
+    for (n, count) in counts[..1024 * book.items()].iter_mut().enumerate() {
         if !is_used(book, set, n) {
-            counts[n] = 0;
+            *count = 0;
         }
     }
 }
