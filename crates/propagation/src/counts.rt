@@ -19,7 +19,7 @@ fn shared(x: u32, y: u32) -> u8
 
 // Whether byte n is that of an option of the set and a linked item.
 fn is_used<B: RuleBook>(book: &B, set: &[u32; 32], n: usize) -> bool
-    ensures { result ≡ used (B.RuleBook.meaning book.now) (words set.now) n }
+    ensures { result ≡ used (B.meaning book.now) (words set.now) n }
 {
     contains(set, n / 1024, n / 32 % 32) && book.linked(n / 1024, n % 32)
 }
@@ -27,8 +27,8 @@ fn is_used<B: RuleBook>(book: &B, set: &[u32; 32], n: usize) -> bool
 impl<B: RuleBook> Screening<'_, B> {
     // The support count that byte n is for.
     fn count_of(&self, set: &[u32; 32], n: usize) -> u8
-        requires { n < 1024 * (B.RuleBook.meaning self.now.book.now).items }
-        ensures { result ≡ count_at (B.RuleBook.meaning self.now.book.now) (words set.now) n }
+        requires { n < 1024 * (B.meaning self.now.book.now).items }
+        ensures { result ≡ count_at (B.meaning self.now.book.now) (words set.now) n }
     {
         if is_used(self.book, set, n) {
             shared(self.rows[n], set[n % 32])
@@ -39,9 +39,9 @@ impl<B: RuleBook> Screening<'_, B> {
 
     // Counts the partners of each option of the set.
     pub fn fill_counts(&self, set: &[u32; 32], counts: &mut [u8])
-        requires { 1024 * (B.RuleBook.meaning self.now.book.now).items ≤ length counts.old }
-        ensures first { (n : ℕ) → n < 1024 * (B.RuleBook.meaning self.now.book.now).items → slice_index counts.new n ≡ count_at (B.RuleBook.meaning self.now.book.now) (words set.now) n }
-        ensures past { Past (B.RuleBook.meaning self.now.book.now) counts.old counts.new }
+        requires { 1024 * (B.meaning self.now.book.now).items ≤ length counts.old }
+        ensures first { (n : ℕ) → n < 1024 * (B.meaning self.now.book.now).items → slice_index counts.new n ≡ count_at (B.meaning self.now.book.now) (words set.now) n }
+        ensures past { Past (B.meaning self.now.book.now) counts.old counts.new }
     {
         for (n, count) in counts[..1024 * self.book.items()].iter_mut().enumerate() {
             *count = self.count_of(set, n);
@@ -51,9 +51,9 @@ impl<B: RuleBook> Screening<'_, B> {
 
 // Clears each byte that is not of an option of the set and a linked item.
 pub fn clear_rest<B: RuleBook>(book: &B, set: &[u32; 32], counts: &mut [u8])
-    requires { 1024 * (B.RuleBook.meaning book.now).items ≤ length counts.old }
-    ensures first { (n : ℕ) → n < 1024 * (B.RuleBook.meaning book.now).items → slice_index counts.new n ≡ (if used (B.RuleBook.meaning book.now) (words set.now) n then slice_index counts.old n else 0) }
-    ensures past { Past (B.RuleBook.meaning book.now) counts.old counts.new }
+    requires { 1024 * (B.meaning book.now).items ≤ length counts.old }
+    ensures first { (n : ℕ) → n < 1024 * (B.meaning book.now).items → slice_index counts.new n ≡ (if used (B.meaning book.now) (words set.now) n then slice_index counts.old n else 0) }
+    ensures past { Past (B.meaning book.now) counts.old counts.new }
 {
     for (n, count) in counts[..1024 * book.items()].iter_mut().enumerate() {
         if !is_used(book, set, n) {

@@ -27,11 +27,11 @@ fn lower(counts: &mut [u8], word: u32, i: usize, j: usize)
 impl<B: RuleBook> Screening<'_, B> {
     // Lowers the count on j of each kept option that has b of j as a partner.
     pub fn lower_linked(&self, live: &[u32; 32], counts: &mut [u8], j: usize, b: usize)
-        requires long { 1024 * (B.RuleBook.meaning self.now.book.now).items ≤ length counts.old }
-        requires there { (j < (B.RuleBook.meaning self.now.book.now).items) × (b < 32) }
-        requires one { (i a : ℕ) → i < (B.RuleBook.meaning self.now.book.now).items → a < 32 → T ((B.RuleBook.meaning self.now.book.now).linked i j) → T (words live.now i a && (B.RuleBook.meaning self.now.book.now).together i a j b) → 1 ≤ byte counts.old i a j }
-        ensures mine { (i a : ℕ) → i < (B.RuleBook.meaning self.now.book.now).items → a < 32 → byte counts.new i a j ≡ byte counts.old i a j - one_if ((B.RuleBook.meaning self.now.book.now).linked i j && (words live.now i a && (B.RuleBook.meaning self.now.book.now).together i a j b)) }
-        ensures others { (k : ℕ) → ((i a : ℕ) → i < (B.RuleBook.meaning self.now.book.now).items → a < 32 → k ≢ place i a j) → slice_index counts.new k ≡ slice_index counts.old k }
+        requires long { 1024 * (B.meaning self.now.book.now).items ≤ length counts.old }
+        requires there { (j < (B.meaning self.now.book.now).items) × (b < 32) }
+        requires one { (i a : ℕ) → i < (B.meaning self.now.book.now).items → a < 32 → T ((B.meaning self.now.book.now).linked i j) → T (words live.now i a && (B.meaning self.now.book.now).together i a j b) → 1 ≤ byte counts.old i a j }
+        ensures mine { (i a : ℕ) → i < (B.meaning self.now.book.now).items → a < 32 → byte counts.new i a j ≡ byte counts.old i a j - one_if ((B.meaning self.now.book.now).linked i j && (words live.now i a && (B.meaning self.now.book.now).together i a j b)) }
+        ensures others { (k : ℕ) → ((i a : ℕ) → i < (B.meaning self.now.book.now).items → a < 32 → k ≢ place i a j) → slice_index counts.new k ≡ slice_index counts.old k }
     {
         for i in 0..self.book.items() {
             if self.book.linked(i, j) {

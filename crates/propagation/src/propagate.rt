@@ -27,14 +27,14 @@ impl<B: RuleBook> Screening<'_, B> {
         items: &mut I,
         i: usize,
     )
-        requires holds { Invariant self.now.c (B.RuleBook.meaning self.now.book.now) domains.old counts.old (O.WaitingList.waits options.old) (O.WaitingList.room options.old) (add i (I.WaitingList.waits items.old)) (I.WaitingList.room items.old) }
-        ensures holds { Invariant self.now.c (B.RuleBook.meaning self.now.book.now) domains.new counts.new (O.WaitingList.waits options.new) (O.WaitingList.room options.new) (I.WaitingList.waits items.new) (I.WaitingList.room items.new) }
-        ensures empty { O.WaitingList.waits options.new ≡ none }
-        ensures narrowed { Narrowed self.now.c (B.RuleBook.meaning self.now.book.now) domains.old domains.new }
-        ensures less { work (B.RuleBook.meaning self.now.book.now) domains.new (I.WaitingList.waits items.new) ≤ work (B.RuleBook.meaning self.now.book.now) domains.old (I.WaitingList.waits items.old) }
-        ensures options { O.WaitingList.room options.new ≡ O.WaitingList.room options.old }
-        ensures items { I.WaitingList.room items.new ≡ I.WaitingList.room items.old }
-        ensures past { Past (B.RuleBook.meaning self.now.book.now) counts.old counts.new }
+        requires holds { Invariant self.now.c (B.meaning self.now.book.now) domains.old counts.old (O.waits options.old) (O.room options.old) (add i (I.waits items.old)) (I.room items.old) }
+        ensures holds { Invariant self.now.c (B.meaning self.now.book.now) domains.new counts.new (O.waits options.new) (O.room options.new) (I.waits items.new) (I.room items.new) }
+        ensures empty { O.waits options.new ≡ none }
+        ensures narrowed { Narrowed self.now.c (B.meaning self.now.book.now) domains.old domains.new }
+        ensures less { work (B.meaning self.now.book.now) domains.new (I.waits items.new) ≤ work (B.meaning self.now.book.now) domains.old (I.waits items.old) }
+        ensures options { O.room options.new ≡ O.room options.old }
+        ensures items { I.room items.new ≡ I.room items.old }
+        ensures past { Past (B.meaning self.now.book.now) counts.old counts.new }
     {
         self.revise(domains, counts, options, i);
         self.spread_all(domains, counts, options, items);
@@ -48,14 +48,14 @@ impl<B: RuleBook> Screening<'_, B> {
         options: &mut O,
         items: &mut I,
     )
-        requires holds { Invariant self.now.c (B.RuleBook.meaning self.now.book.now) domains.old counts.old (O.WaitingList.waits options.old) (O.WaitingList.room options.old) (I.WaitingList.waits items.old) (I.WaitingList.room items.old) }
-        requires empty { O.WaitingList.waits options.old ≡ none }
-        ensures holds { Invariant self.now.c (B.RuleBook.meaning self.now.book.now) domains.new counts.new none (O.WaitingList.room options.new) none (I.WaitingList.room items.new) }
-        ensures empty { (O.WaitingList.waits options.new ≡ none) × (I.WaitingList.waits items.new ≡ none) }
-        ensures narrowed { Narrowed self.now.c (B.RuleBook.meaning self.now.book.now) domains.old domains.new }
-        ensures options { O.WaitingList.room options.new ≡ O.WaitingList.room options.old }
-        ensures items { I.WaitingList.room items.new ≡ I.WaitingList.room items.old }
-        ensures past { Past (B.RuleBook.meaning self.now.book.now) counts.old counts.new }
+        requires holds { Invariant self.now.c (B.meaning self.now.book.now) domains.old counts.old (O.waits options.old) (O.room options.old) (I.waits items.old) (I.room items.old) }
+        requires empty { O.waits options.old ≡ none }
+        ensures holds { Invariant self.now.c (B.meaning self.now.book.now) domains.new counts.new none (O.room options.new) none (I.room items.new) }
+        ensures empty { (O.waits options.new ≡ none) × (I.waits items.new ≡ none) }
+        ensures narrowed { Narrowed self.now.c (B.meaning self.now.book.now) domains.old domains.new }
+        ensures options { O.room options.new ≡ O.room options.old }
+        ensures items { I.room items.new ≡ I.room items.old }
+        ensures past { Past (B.meaning self.now.book.now) counts.old counts.new }
     {
         while let Some(x) = items.take() {
             self.step(domains, counts, options, items, usize::from(x));

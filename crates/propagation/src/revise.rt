@@ -22,15 +22,15 @@ impl<B: RuleBook> Screening<'_, B> {
         options: &mut O,
         i: usize,
     )
-        requires sound { Sound self.now.c (B.RuleBook.meaning self.now.book.now) domains.old counts.now }
-        requires pending { Pending (B.RuleBook.meaning self.now.book.now) (words domains.old.kept) (words domains.old.seen) (O.WaitingList.waits options.old) (O.WaitingList.room options.old) }
-        requires marked { (i < (B.RuleBook.meaning self.now.book.now).items) × T (bit domains.old.marked i) }
-        ensures sound { Sound self.now.c (B.RuleBook.meaning self.now.book.now) domains.new counts.now }
-        ensures pending { Pending (B.RuleBook.meaning self.now.book.now) (words domains.new.kept) (words domains.new.seen) (O.WaitingList.waits options.new) (O.WaitingList.room options.new) }
-        ensures narrowed { Narrowed self.now.c (B.RuleBook.meaning self.now.book.now) domains.old domains.new }
+        requires sound { Sound self.now.c (B.meaning self.now.book.now) domains.old counts.now }
+        requires pending { Pending (B.meaning self.now.book.now) (words domains.old.kept) (words domains.old.seen) (O.waits options.old) (O.room options.old) }
+        requires marked { (i < (B.meaning self.now.book.now).items) × T (bit domains.old.marked i) }
+        ensures sound { Sound self.now.c (B.meaning self.now.book.now) domains.new counts.now }
+        ensures pending { Pending (B.meaning self.now.book.now) (words domains.new.kept) (words domains.new.seen) (O.waits options.new) (O.room options.new) }
+        ensures narrowed { Narrowed self.now.c (B.meaning self.now.book.now) domains.old domains.new }
         ensures seen { domains.new.seen ≡ domains.old.seen }
         ensures marked { (x : ℕ) → bit domains.new.marked x ≡ (bit domains.old.marked x && not (i == x)) }
-        ensures capacity { O.WaitingList.room options.new ≡ O.WaitingList.room options.old }
+        ensures capacity { O.room options.new ≡ O.room options.old }
     {
         for a in 0..self.book.options(i) {
             if contains(&domains.kept, i, a) && !self.meets(&domains.seen, counts, i, a) {

@@ -9,5 +9,5 @@ pub struct Screening<'a, B: RuleBook> {
     pub book: &'a B,
     pub rows: &'a [u32; 32768],
     pub c: u8,
-    ghost known: { Supports (B.RuleBook.meaning book.now) rows.now },
+    ghost known: { Supports (B.meaning book.now) rows.now },
 }

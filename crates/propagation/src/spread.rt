@@ -24,16 +24,16 @@ impl<B: RuleBook> Screening<'_, B> {
         j: usize,
         b: usize,
     )
-        requires sound { Sound self.now.c (B.RuleBook.meaning self.now.book.now) domains.old counts.old }
-        requires marks { Marks (B.RuleBook.meaning self.now.book.now).items (bit domains.old.marked) (I.WaitingList.waits items.old) (I.WaitingList.room items.old) }
+        requires sound { Sound self.now.c (B.meaning self.now.book.now) domains.old counts.old }
+        requires marks { Marks (B.meaning self.now.book.now).items (bit domains.old.marked) (I.waits items.old) (I.room items.old) }
         requires out { T (words domains.old.seen j b && not (words domains.old.kept j b)) }
-        ensures sound { Sound self.now.c (B.RuleBook.meaning self.now.book.now) domains.new counts.new }
-        ensures marks { Marks (B.RuleBook.meaning self.now.book.now).items (bit domains.new.marked) (I.WaitingList.waits items.new) (I.WaitingList.room items.new) }
+        ensures sound { Sound self.now.c (B.meaning self.now.book.now) domains.new counts.new }
+        ensures marks { Marks (B.meaning self.now.book.now).items (bit domains.new.marked) (I.waits items.new) (I.room items.new) }
         ensures kept { domains.new.kept ≡ domains.old.kept }
         ensures seen { (i a : ℕ) → words domains.new.seen i a ≡ (words domains.old.seen i a && not (j == i && b == a)) }
-        ensures few { size (I.WaitingList.waits items.new) ≤ size (I.WaitingList.waits items.old) + 32 }
-        ensures capacity { I.WaitingList.room items.new ≡ I.WaitingList.room items.old }
-        ensures past { Past (B.RuleBook.meaning self.now.book.now) counts.old counts.new }
+        ensures few { size (I.waits items.new) ≤ size (I.waits items.old) + 32 }
+        ensures capacity { I.room items.new ≡ I.room items.old }
+        ensures past { Past (B.meaning self.now.book.now) counts.old counts.new }
     {
         take_out(&mut domains.seen, j, b);
         mark_linked(self.book, &mut domains.marked, items, j);
@@ -48,14 +48,14 @@ impl<B: RuleBook> Screening<'_, B> {
         options: &mut O,
         items: &mut I,
     )
-        requires holds { Invariant self.now.c (B.RuleBook.meaning self.now.book.now) domains.old counts.old (O.WaitingList.waits options.old) (O.WaitingList.room options.old) (I.WaitingList.waits items.old) (I.WaitingList.room items.old) }
-        ensures holds { Invariant self.now.c (B.RuleBook.meaning self.now.book.now) domains.new counts.new (O.WaitingList.waits options.new) (O.WaitingList.room options.new) (I.WaitingList.waits items.new) (I.WaitingList.room items.new) }
-        ensures empty { O.WaitingList.waits options.new ≡ none }
+        requires holds { Invariant self.now.c (B.meaning self.now.book.now) domains.old counts.old (O.waits options.old) (O.room options.old) (I.waits items.old) (I.room items.old) }
+        ensures holds { Invariant self.now.c (B.meaning self.now.book.now) domains.new counts.new (O.waits options.new) (O.room options.new) (I.waits items.new) (I.room items.new) }
+        ensures empty { O.waits options.new ≡ none }
         ensures kept { domains.new.kept ≡ domains.old.kept }
-        ensures less { work (B.RuleBook.meaning self.now.book.now) domains.new (I.WaitingList.waits items.new) ≤ work (B.RuleBook.meaning self.now.book.now) domains.old (I.WaitingList.waits items.old) }
-        ensures options { O.WaitingList.room options.new ≡ O.WaitingList.room options.old }
-        ensures items { I.WaitingList.room items.new ≡ I.WaitingList.room items.old }
-        ensures past { Past (B.RuleBook.meaning self.now.book.now) counts.old counts.new }
+        ensures less { work (B.meaning self.now.book.now) domains.new (I.waits items.new) ≤ work (B.meaning self.now.book.now) domains.old (I.waits items.old) }
+        ensures options { O.room options.new ≡ O.room options.old }
+        ensures items { I.room items.new ≡ I.room items.old }
+        ensures past { Past (B.meaning self.now.book.now) counts.old counts.new }
     {
         while let Some(x) = options.take() {
             let (j, b) = (usize::from(x.item), usize::from(x.option));

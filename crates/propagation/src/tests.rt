@@ -31,10 +31,10 @@ impl<B: RuleBook> Screening<'_, B> {
         b: usize,
         k: usize,
     ) -> bool
-        requires first { (i < (B.RuleBook.meaning self.now.book.now).items) × (a < 32) }
-        requires second { (j < (B.RuleBook.meaning self.now.book.now).items) × (b < 32) }
-        requires third { k < (B.RuleBook.meaning self.now.book.now).items }
-        ensures { result ≡ witnessed_test (B.RuleBook.meaning self.now.book.now) (words set.now) i a j b k }
+        requires first { (i < (B.meaning self.now.book.now).items) × (a < 32) }
+        requires second { (j < (B.meaning self.now.book.now).items) × (b < 32) }
+        requires third { k < (B.meaning self.now.book.now).items }
+        ensures { result ≡ witnessed_test (B.meaning self.now.book.now) (words set.now) i a j b k }
     {
         let of_a = self.rows[1024 * i + 32 * a + k];
         let of_b = self.rows[1024 * j + 32 * b + k];
@@ -43,19 +43,19 @@ impl<B: RuleBook> Screening<'_, B> {
 
     // Whether a of i and b of j have a witness in the set on every third item.
     fn is_witnessed(&self, set: &[u32; 32], i: usize, a: usize, j: usize, b: usize) -> bool
-        requires first { (i < (B.RuleBook.meaning self.now.book.now).items) × (a < 32) }
-        requires second { (j < (B.RuleBook.meaning self.now.book.now).items) × (b < 32) }
-        ensures { result ≡ every (B.RuleBook.meaning self.now.book.now).items (witnessed_test (B.RuleBook.meaning self.now.book.now) (words set.now) i a j b) }
+        requires first { (i < (B.meaning self.now.book.now).items) × (a < 32) }
+        requires second { (j < (B.meaning self.now.book.now).items) × (b < 32) }
+        ensures { result ≡ every (B.meaning self.now.book.now).items (witnessed_test (B.meaning self.now.book.now) (words set.now) i a j b) }
     {
         (0..self.book.items()).all(|k| self.is_witnessed_on(set, i, a, j, b, k))
     }
 
     // Whether b is a path partner of a of i on the linked item j.
     fn is_path_partner(&self, set: &[u32; 32], i: usize, a: usize, j: usize, b: usize) -> bool
-        requires option { (i < (B.RuleBook.meaning self.now.book.now).items) × (a < 32) }
-        requires linked { Linked (B.RuleBook.meaning self.now.book.now) i j }
-        requires there { b < (B.RuleBook.meaning self.now.book.now).options j }
-        ensures { result ≡ path_test (B.RuleBook.meaning self.now.book.now) (words set.now) i a j b }
+        requires option { (i < (B.meaning self.now.book.now).items) × (a < 32) }
+        requires linked { Linked (B.meaning self.now.book.now) i j }
+        requires there { b < (B.meaning self.now.book.now).options j }
+        ensures { result ≡ path_test (B.meaning self.now.book.now) (words set.now) i a j b }
     {
         let partners = self.rows[1024 * i + 32 * a + j] & set[j];
         has_bit(partners, b) && self.is_witnessed(set, i, a, j, b)
@@ -63,20 +63,20 @@ impl<B: RuleBook> Screening<'_, B> {
 
     // Whether a of i has a path partner on the linked item j.
     fn has_path(&self, set: &[u32; 32], i: usize, a: usize, j: usize) -> bool
-        requires option { (i < (B.RuleBook.meaning self.now.book.now).items) × (a < 32) }
-        requires linked { Linked (B.RuleBook.meaning self.now.book.now) i j }
-        ensures { result ≡ some ((B.RuleBook.meaning self.now.book.now).options j) (path_test (B.RuleBook.meaning self.now.book.now) (words set.now) i a j) }
+        requires option { (i < (B.meaning self.now.book.now).items) × (a < 32) }
+        requires linked { Linked (B.meaning self.now.book.now) i j }
+        ensures { result ≡ some ((B.meaning self.now.book.now).options j) (path_test (B.meaning self.now.book.now) (words set.now) i a j) }
     {
         (0..self.book.options(j)).any(|b| self.is_path_partner(set, i, a, j, b))
     }
 
     // Whether a of i meets the count c on j, where j is linked with i.
     fn meets_on(&self, set: &[u32; 32], counts: &[u8], i: usize, a: usize, j: usize) -> bool
-        requires long { 1024 * (B.RuleBook.meaning self.now.book.now).items ≤ length counts.now }
-        requires option { (i < (B.RuleBook.meaning self.now.book.now).items) × (a < 32) }
-        requires there { j < (B.RuleBook.meaning self.now.book.now).items }
-        requires support { Linked (B.RuleBook.meaning self.now.book.now) i j → byte counts.now i a j ≡ partners (B.RuleBook.meaning self.now.book.now) (words set.now) i a j }
-        ensures { result ≡ on_linked_test self.now.c (B.RuleBook.meaning self.now.book.now) (words set.now) i a j }
+        requires long { 1024 * (B.meaning self.now.book.now).items ≤ length counts.now }
+        requires option { (i < (B.meaning self.now.book.now).items) × (a < 32) }
+        requires there { j < (B.meaning self.now.book.now).items }
+        requires support { Linked (B.meaning self.now.book.now) i j → byte counts.now i a j ≡ partners (B.meaning self.now.book.now) (words set.now) i a j }
+        ensures { result ≡ on_linked_test self.now.c (B.meaning self.now.book.now) (words set.now) i a j }
     {
         !self.book.linked(i, j)
             || counts[1024 * i + 32 * a + j] > self.c
@@ -85,10 +85,10 @@ impl<B: RuleBook> Screening<'_, B> {
 
     // Whether a of i meets the count c in the set, where its support counts are those in the set.
     pub fn meets(&self, set: &[u32; 32], counts: &[u8], i: usize, a: usize) -> bool
-        requires long { 1024 * (B.RuleBook.meaning self.now.book.now).items ≤ length counts.now }
-        requires option { (i < (B.RuleBook.meaning self.now.book.now).items) × (a < 32) }
-        requires support { (j : ℕ) → Linked (B.RuleBook.meaning self.now.book.now) i j → byte counts.now i a j ≡ partners (B.RuleBook.meaning self.now.book.now) (words set.now) i a j }
-        ensures { result ≡ meets_test self.now.c (B.RuleBook.meaning self.now.book.now) (words set.now) i a }
+        requires long { 1024 * (B.meaning self.now.book.now).items ≤ length counts.now }
+        requires option { (i < (B.meaning self.now.book.now).items) × (a < 32) }
+        requires support { (j : ℕ) → Linked (B.meaning self.now.book.now) i j → byte counts.now i a j ≡ partners (B.meaning self.now.book.now) (words set.now) i a j }
+        ensures { result ≡ meets_test self.now.c (B.meaning self.now.book.now) (words set.now) i a }
     {
         (0..self.book.items()).all(|j| self.meets_on(set, counts, i, a, j))
     }
