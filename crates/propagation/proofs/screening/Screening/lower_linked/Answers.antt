@@ -28,7 +28,7 @@ lower-requires g c =
     let i : ℕ = c.loop-i.i in
     let j : ℕ = c.args.j in
     let b : ℕ = c.args.b in
-    let f : ℕ → ℕ → Bool = λ x a. words c.args.live.now x a && m.together x a j b in
+    let f : ℕ → ℕ → Bool = λ x a. words c.args.kept.now x a && m.together x a j b in
     let il : i < m.items = omega (arith, c.items-i-end.ensures, c.loop-i-test.true) in
     let l : T (m.linked i j) = of_true (sym c.linked.ensures ∙ c.if-linked.true) in
     record {
@@ -36,7 +36,7 @@ lower-requires g c =
       there = (omega (arith, il, law.items_most), omega (arith, c.requires.there.0, law.items_most));
       one = λ a al t.
           subst (λ (z : ℕ). 1 ≤ z) (sym (all_not_yet m c.args.counts.now c.loop-i.counts j f i c.loop-i.invariant a al))
-          (c.requires.one i a il al l (subst T (lowered_word m law c.args.self.now.rows.now c.args.live.now i j b a c.args.self.now.known il l c.requires.there.0 c.requires.there.1) t));
+          (c.requires.one i a il al l (subst T (lowered_word m law c.args.self.now.rows.now c.args.kept.now i j b a c.args.self.now.known il l c.requires.there.0 c.requires.there.1) t));
     }
 
 pub loop-i-preserved : goal.loop-i-preserved
@@ -46,7 +46,7 @@ loop-i-preserved g c =
     let i : ℕ = c.loop-i.i in
     let j : ℕ = c.args.j in
     let b : ℕ = c.args.b in
-    let f : ℕ → ℕ → Bool = λ x a. words c.args.live.now x a && m.together x a j b in
+    let f : ℕ → ℕ → Bool = λ x a. words c.args.kept.now x a && m.together x a j b in
     let il : i < m.items = omega (arith, c.items-i-end.ensures, c.loop-i-test.true) in
     elim c.if-linked.branch [
       | then-linked w ↦
@@ -54,7 +54,7 @@ loop-i-preserved g c =
           all_yes m c.args.counts.now c.loop-i.counts j f i c.loop-i.invariant c.if-linked.counts l
           (λ a al.
           ap (λ (x : List ℕ). byte x i a j) w.counts-is ∙ (w.lower.ensures.mine a al
-          ∙ ap (λ (z : Bool). byte c.loop-i.counts i a j - one_if z) (lowered_word m law c.args.self.now.rows.now c.args.live.now i j b a c.args.self.now.known il l c.requires.there.0 c.requires.there.1)))
+          ∙ ap (λ (z : Bool). byte c.loop-i.counts i a j - one_if z) (lowered_word m law c.args.self.now.rows.now c.args.kept.now i j b a c.args.self.now.known il l c.requires.there.0 c.requires.there.1)))
           (λ k h. ap (λ (x : List ℕ). get_or x k 0) w.counts-is ∙ w.lower.ensures.others k h))
       | else-linked w ↦ all_no m c.args.counts.now c.loop-i.counts j f i c.loop-i.invariant c.if-linked.counts (of_false (sym c.linked.ensures ∙ w.if-linked.false)) w.counts-is
     ]
