@@ -39,9 +39,6 @@ settle-requires g c =
       empty = c.requires.empty.0;
     }
 
-pub clear_rest-requires : goal.clear_rest-requires
-clear_rest-requires g c = c.settle.ensures.holds.sound.long
-
 pub returns : goal.returns
 returns g c =
     let m = g.B.RuleBook.meaning c.args.book.now in

@@ -9,30 +9,10 @@ use Rattle.levels.specs.Counts.{count_on}
 use Rattle.levels.proofs.Decide.{meets_dec}
 use Rattle.lists.specs.declared.choice.Choice.{Choice}
 use Rattle.propagation.specs.declared.domains.Domains.{Domains}
-use Rattle.propagation.proofs.Revising.{Revising, revising_out, revising_stay, narrowed_none, narrowed_same, sound_unmark}
+use Rattle.propagation.proofs.Revising.{Revising, revising_out, revising_stay, narrowed_same, sound_unmark}
 use Rattle.propagation.proofs.Waiting.{pending_free}
 use Rattle.propagation.proofs.screening.Screening.revise.Goals as goal
 use Rattle.propagation.proofs.screening.Screening.revise.Goals.{then-contains+then-not-meets, else-contains, else-contains-via-then-contains+else-not-meets, else-contains-via-else-contains}
-
-pub meets-requires : goal.meets-requires
-meets-requires g c =
-    let law = g.B.RuleBook.lawful c.args.self.now.book.now in
-    let i : ℕ = c.args.i in
-    let a : ℕ = c.loop-a.a in
-    let s = c.loop-a.invariant.0.0 in
-    record {
-      long = c.requires.sound.long;
-      option = (c.requires.marked.0, omega (arith, law.options_most i, c.options-a-end.ensures, c.loop-a-test.true));
-      support = λ j l. s.support i a j (c.requires.marked.0, omega (arith, c.options-a-end.ensures, c.loop-a-test.true), of_true (sym c.contains.ensures ∙ c.if-contains.true)) l;
-    }
-
-pub loop-a-init : goal.loop-a-init
-loop-a-init g c = (
-  (c.requires.sound, c.requires.pending, narrowed_none c.args.self.now.c (g.B.RuleBook.meaning c.args.self.now.book.now) c.args.domains.now, λ x xl. absurd (omega (arith, xl))),
-  refl,
-  refl,
-  refl,
-)
 
 pub loop-a-preserved : goal.loop-a-preserved
 loop-a-preserved g c =

@@ -5,15 +5,6 @@ use Rattle.propagation.specs.declared.domains.Domains.{Domains}
 use Rattle.propagation.proofs.Spreading.{support_one, sound_spread, past_lowered}
 use Rattle.propagation.proofs.screening.Screening.spread.Goals as goal
 
-pub take_out-requires : goal.take_out-requires
-take_out-requires g c =
-    let law = g.B.RuleBook.lawful c.args.self.now.book.now in
-    let j : ℕ = c.args.j in
-    let b : ℕ = c.args.b in
-    let d : Domains = c.args.domains.now in
-    let th = c.requires.sound.there j b (and_l (words d.seen j b) (not (words d.kept j b)) c.requires.out) in
-    (omega (arith, law.items_most, th.0), omega (arith, law.options_most j, th.1))
-
 pub lower_linked-requires : goal.lower_linked-requires
 lower_linked-requires g c =
     let m = g.B.RuleBook.meaning c.args.self.now.book.now in

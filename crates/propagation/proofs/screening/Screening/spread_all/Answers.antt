@@ -1,6 +1,6 @@
-use Rattle.std.proofs.Common.{◌≡◌, ℕ, List, sym, refl, ap, ◌∙◌, subst, subst₂, arith}
+use Rattle.std.proofs.Common.{◌≡◌, ℕ, List, sym, ap, ◌∙◌, subst, subst₂, arith}
 use mathlib.Core.Path.{fun_ext}
-use Rattle.bags.specs.Bags.{Bag, add, size}
+use Rattle.bags.specs.Bags.{Bag, add}
 use Rattle.bags.proofs.BagLaws.{size_add}
 use Rattle.levels.specs.Sets.{Set, words}
 use Rattle.levels.specs.Size.{size as options-of}
@@ -24,14 +24,6 @@ spread-requires g c =
       marks = inv.marks;
       out = rw (c.from-j.ensures, c.from-b.ensures) (pending_in m (words d.kept) (words d.seen) room w c.in-Some.x p);
     }
-
-pub loop-x-init : goal.loop-x-init
-loop-x-init g c = (c.requires.holds, refl, omega arith, refl, refl, λ k h. refl)
-
-pub loop-x-smaller : goal.loop-x-smaller
-loop-x-smaller g c =
-    let one = ap size c.in-Some.ensures.waiting ∙ size_add c.in-Some.x (g.O.WaitingList.waits c.take.new.self) in
-    omega (arith, one)
 
 pub loop-x-preserved : goal.loop-x-preserved
 loop-x-preserved g c =
@@ -60,23 +52,3 @@ loop-x-preserved g c =
       c.spread.ensures.capacity ∙ c.loop-x.invariant.4,
       λ k h. c.spread.ensures.past k h ∙ c.loop-x.invariant.5 k h,
     )
-
-pub returns : goal.returns
-returns g c =
-    let m = g.B.RuleBook.meaning c.args.self.now.book.now in
-    let d : Domains = c.loop-x.domains in
-    let inv = c.loop-x.invariant.0 in
-    let w = c.in_default.ensures.waiting in
-    record {
-      holds = record {
-        sound = inv.sound;
-        pending = subst₂ (λ (b : Bag Choice) (r : ℕ). Pending m (words d.kept) (words d.seen) b r) (w.0 ∙ sym w.1) (sym c.in_default.ensures.capacity) inv.pending;
-        marks = inv.marks;
-      };
-      empty = w.1;
-      kept = c.loop-x.invariant.1;
-      less = c.loop-x.invariant.2;
-      options = c.in_default.ensures.capacity ∙ c.loop-x.invariant.3;
-      items = c.loop-x.invariant.4;
-      past = c.loop-x.invariant.5;
-    }
