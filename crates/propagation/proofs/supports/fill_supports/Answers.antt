@@ -1,24 +1,8 @@
-use Rattle.std.proofs.Common.{◌≡◌, ℕ, ◌+◌, ◌*◌, ◌/◌, ◌%◌, ◌<◌, T, length, sym, ap, ◌∙◌, subst, arith, length-set}
-use Rattle.bits.proofs.Tests.{of_true}
-use Rattle.levels.specs.Counted.{place}
+use Rattle.std.proofs.Common.{ℕ, ◌+◌, ◌<◌, length, sym, ap, ◌∙◌, subst, arith, length-set}
 use Rattle.propagation.specs.Supports.{SupportsBelow}
-use Rattle.propagation.proofs.Rows.{supports_set, supports_skip, linked_there}
+use Rattle.propagation.proofs.Rows.{supports_set, supports_skip}
 use Rattle.propagation.proofs.supports.fill_supports.Goals as goal
 use Rattle.propagation.proofs.supports.fill_supports.Goals.{then-linked, else-linked}
-
-pub support_word-word-requires : goal.support_word-word-requires
-support_word-word-requires g c =
-    let m = g.B.RuleBook.meaning c.args.book.now in
-    let law = g.B.RuleBook.lawful c.args.book.now in
-    let n : ℕ = c.loop-n.n in
-    let nl : n < 1024 * m.items = omega (arith, c.items-n-end.ensures, c.loop-n-test.true) in
-    let l : T (m.linked (n / 1024) (n % 32)) = of_true (sym c.linked.ensures ∙ c.if-linked.true) in
-    let back : n ≡ place (n / 1024) (n / 32 % 32) (n % 32) = omega arith in
-    record {
-      option = (omega (arith, nl), omega arith);
-      linked = linked_there m law (n / 1024) (n % 32) l;
-      known = subst (λ (z : ℕ). SupportsBelow m z c.loop-n.rows) back c.loop-n.invariant.0;
-    }
 
 pub loop-n-preserved : goal.loop-n-preserved
 loop-n-preserved g c =
