@@ -1,12 +1,12 @@
 -- The table of support words: how it is filled, and that counts and witnesses read from it are those of the book.
-use Rattle.std.proofs.Common.{◌≡◌, ℕ, ◌+◌, ◌/◌, ◌%◌, ◌<◌, ◌≤◌, Bool, true, false, ◌&&◌, ◌||◌, T, eqb, ◌≢◌, ◌↔◌, List, length, get_or, set, sym, refl, ap, ◌∙◌, subst, arith, get_or-set_other, get_or-set_same}
+use Rattle.std.proofs.Common.{◌≡◌, ℕ, ◌+◌, ◌/◌, ◌%◌, ◌<◌, ◌≤◌, Bool, true, false, ◌&&◌, T, ◌↔◌, List, length, get_or, set, sym, refl, ap, ◌∙◌, subst, arith, get_or-set_other, get_or-set_same}
 use native.Mathlib.Decide.{ℕ_discrete, dec_lt}
 use lib.Bits.{bit_and}
 use Rattle.bits.specs.Below.{count, some}
 use Rattle.bits.specs.Bits.{bit}
 use Rattle.bits.proofs.Belows.{some_e, some_i}
 use Rattle.bits.proofs.Counts.{count_cong, count_cut}
-use Rattle.bits.proofs.Tests.{and_l, and_r, of_false, same_T, eqb_yes, eqb_no}
+use Rattle.bits.proofs.Tests.{and_l, and_r, of_false, same_T}
 use Rattle.bits.proofs.Words.{bit_of_and}
 use Rattle.meaning.specs.Meaning.{Meaning, Lawful}
 use Rattle.levels.specs.Sets.{words}
@@ -21,32 +21,6 @@ use Rattle.propagation.proofs.Testing.{third_links}
 -- Bits below n of the word t are what f says, and it has none from there on.
 abbrev pub Bits : (ℕ → Bool) → (ℕ → Bool) → ℕ → Type 0
 Bits f t n = ((x : ℕ) → x < n → t x ≡ f x) × ((x : ℕ) → n ≤ x → t x ≡ false)
-
-or_no : (b x : Bool) → (b || (x && false)) ≡ b
-or_no true x = refl
-or_no false true = refl
-or_no false false = refl
-
-or_here : (x : Bool) → (false || (x && true)) ≡ x
-or_here true = refl
-or_here false = refl
-
-pub bits_more : (f t t' : ℕ → Bool) (n : ℕ) → Bits f t n → (on : Bool) → ((k : ℕ) → t' k ≡ (t k || (on && eqb n k))) → on ≡ f n → Bits f t' (n + 1)
-bits_more f t t' n inv on h e = (
-  (λ x xl. elim (ℕ_discrete x n) [
-    | yes q ↦ subst (λ (y : ℕ). t' y ≡ f y) (sym q) here
-    | no ne ↦ same x ne ∙ inv.0 x (omega arith)
-  ]),
-  λ x xl. let ne : x ≢ n = omega arith in same x ne ∙ inv.1 x (omega arith),
-)
-  where
-    same : (x : ℕ) → x ≢ n → t' x ≡ t x
-    same x ne = h x ∙ (ap (λ (b : Bool). t x || (on && b)) (eqb_no n x (λ q. ne (sym q))) ∙ or_no (t x) on)
-
-    here : t' n ≡ f n
-    here =
-        h n ∙ (ap (λ (b : Bool). b || (on && eqb n n)) (inv.1 n (omega arith))
-        ∙ (ap (λ (b : Bool). false || (on && b)) (eqb_yes n n refl) ∙ (or_here on ∙ e)))
 
 pub and_swap : (a b : Bool) → (a && b) ≡ (b && a)
 and_swap true true = refl
@@ -74,13 +48,6 @@ module _ (m : Meaning) (law : Lawful m) where
   pub support_back : (n : ℕ) (rows : List ℕ) (i a k w : ℕ) → SupportsBelow m n rows → i < m.items → w < 32 → Linked m i k → place k w i < n
       → bit (get_or rows (place k w i) 0) a ≡ m.together i a k w
   support_back n rows i a k w sup il wl l lt = sup k w i a l.0 wl (linked_back i k il l) lt ∙ law.together_mutual k w i a
-
-  pub support_all : (i a k : ℕ) (t : ℕ → Bool) → Bits (m.together i a k) t (m.options k) → (w : ℕ) → t w ≡ m.together i a k w
-  support_all i a k t b w =
-      elim (dec_lt w (m.options k)) [
-        | yes lt ↦ b.0 w lt
-        | no nlt ↦ b.1 w (omega arith) ∙ sym (missing i a k w (omega arith))
-      ]
 
   -- the partners of an option on a linked item are the bits that its word shares with the set
   pub support_count : (n : ℕ) (rows ws : List ℕ) (i a j : ℕ) → SupportsBelow m n rows → i < m.items → a < 32 → Linked m i j → place i a j < n
