@@ -18,8 +18,6 @@ loop-a-preserved c =
       | else-has_bit w ↦ lowered_no c.args.counts.now c.loop-a.counts c.if-has_bit.counts i j f a c.loop-a.invariant (of_false (sym c.has_bit.ensures ∙ w.if-has_bit.false)) w.counts-is
     ]
 
-pub returns : goal.returns
-returns c = record {
-  mine = λ a al. c.loop-a.invariant.0 a (omega (arith, c.loop-a-test.false, al));
-  others = λ k h. c.loop-a.invariant.1 k (λ x xl. h x (omega (arith, c.loop-a.auto.a-end, xl)));
-}
+pub returns-clause-others : goal.returns-clause-others
+returns-clause-others c =
+    λ k h. c.loop-a.invariant.1 k (λ x xl. h x (omega (arith, c.loop-a.auto.a-end, xl)))

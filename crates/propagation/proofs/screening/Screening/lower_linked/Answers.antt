@@ -21,24 +21,6 @@ lowered_word m law rows ws i j b a sup il l jl bl =
     bit_of_and (get_or rows (place j b i) 0) (get_or ws i 0) a
     ∙ (ap (λ (z : Bool). z && words ws i a) (support_back m law (1024 * m.items) rows i a j b sup il bl (jl, l) (omega arith)) ∙ and_swap (m.together i a j b) (words ws i a))
 
-pub lower-requires : goal.lower-requires
-lower-requires g c =
-    let m = g.B.RuleBook.meaning c.args.self.now.book.now in
-    let law = g.B.RuleBook.lawful c.args.self.now.book.now in
-    let i : ℕ = c.loop-i.i in
-    let j : ℕ = c.args.j in
-    let b : ℕ = c.args.b in
-    let f : ℕ → ℕ → Bool = λ x a. words c.args.kept.now x a && m.together x a j b in
-    let il : i < m.items = omega (arith, c.items-i-end.ensures, c.loop-i-test.true) in
-    let l : T (m.linked i j) = of_true (sym c.linked.ensures ∙ c.if-linked.true) in
-    record {
-      long = omega (arith, il, c.requires.long, c.loop-i.auto.counts);
-      there = (omega (arith, il, law.items_most), omega (arith, c.requires.there.0, law.items_most));
-      one = λ a al t.
-          subst (λ (z : ℕ). 1 ≤ z) (sym (all_not_yet m c.args.counts.now c.loop-i.counts j f i c.loop-i.invariant a al))
-          (c.requires.one i a il al l (subst T (lowered_word m law c.args.self.now.rows.now c.args.kept.now i j b a c.args.self.now.known il l c.requires.there.0 c.requires.there.1) t));
-    }
-
 pub loop-i-preserved : goal.loop-i-preserved
 loop-i-preserved g c =
     let m = g.B.RuleBook.meaning c.args.self.now.book.now in
@@ -59,9 +41,20 @@ loop-i-preserved g c =
       | else-linked w ↦ all_no m c.args.counts.now c.loop-i.counts j f i c.loop-i.invariant c.if-linked.counts (of_false (sym c.linked.ensures ∙ w.if-linked.false)) w.counts-is
     ]
 
-pub returns : goal.returns
-returns g c =
-    record {
-      mine = λ i a il al. c.loop-i.invariant.0 i a (omega (arith, c.items-i-end.ensures, c.loop-i-test.false, il)) al;
-      others = λ k h. c.loop-i.invariant.1 k (λ x a xl al. h x a (omega (arith, c.items-i-end.ensures, c.loop-i.auto.i-end, xl)) al);
-    }
+pub lower-requires-clause-one : goal.lower-requires-clause-one
+lower-requires-clause-one g c =
+    let m = g.B.RuleBook.meaning c.args.self.now.book.now in
+    let law = g.B.RuleBook.lawful c.args.self.now.book.now in
+    let i : ℕ = c.loop-i.i in
+    let j : ℕ = c.args.j in
+    let b : ℕ = c.args.b in
+    let f : ℕ → ℕ → Bool = λ x a. words c.args.kept.now x a && m.together x a j b in
+    let il : i < m.items = omega (arith, c.items-i-end.ensures, c.loop-i-test.true) in
+    let l : T (m.linked i j) = of_true (sym c.linked.ensures ∙ c.if-linked.true) in
+    λ a al t.
+    subst (λ (z : ℕ). 1 ≤ z) (sym (all_not_yet m c.args.counts.now c.loop-i.counts j f i c.loop-i.invariant a al))
+    (c.requires.one i a il al l (subst T (lowered_word m law c.args.self.now.rows.now c.args.kept.now i j b a c.args.self.now.known il l c.requires.there.0 c.requires.there.1) t))
+
+pub returns-clause-others : goal.returns-clause-others
+returns-clause-others g c =
+    λ k h. c.loop-i.invariant.1 k (λ x a xl al. h x a (omega (arith, c.items-i-end.ensures, c.loop-i.auto.i-end, xl)) al)

@@ -1,7 +1,5 @@
-use Rattle.std.proofs.Common.{◌≡◌, ℕ, ◌+◌, ◌<◌, not, ◌&&◌, T, eqb, ltb, List, sym, refl, ap, ◌∙◌, subst₂, arith, lt-ltb}
-use Rattle.bags.specs.Bags.{Bag, add, size}
-use Rattle.bags.proofs.BagLaws.{put_one}
-use Rattle.bits.specs.Bits.{bit}
+use Rattle.std.proofs.Common.{◌≡◌, ℕ, ◌+◌, T, List, sym, refl, ◌∙◌, subst₂, arith}
+use Rattle.bags.specs.Bags.{Bag, add}
 use Rattle.bits.proofs.Tests.{of_true, of_false}
 use Rattle.levels.specs.Sets.{words}
 use Rattle.levels.specs.Levels.{Meets}
@@ -9,8 +7,8 @@ use Rattle.levels.specs.Counts.{count_on}
 use Rattle.levels.proofs.Decide.{meets_dec}
 use Rattle.lists.specs.declared.choice.Choice.{Choice}
 use Rattle.propagation.specs.declared.domains.Domains.{Domains}
-use Rattle.propagation.proofs.Revising.{Revising, revising_out, revising_stay, narrowed_same, sound_unmark}
-use Rattle.propagation.proofs.Waiting.{pending_free}
+use Rattle.propagation.proofs.Revising.{Revising, revising_out, revising_stay, sound_unmark}
+use Rattle.propagation.proofs.Waiting.{pending_waits}
 use Rattle.propagation.proofs.screening.Screening.revise.Goals as goal
 use Rattle.propagation.proofs.screening.Screening.revise.Goals.{then-contains+then-not-meets, else-contains, else-contains-via-then-contains+else-not-meets, else-contains-via-else-contains}
 
@@ -35,8 +33,7 @@ loop-a-preserved g c =
           let x : Choice = record { item = i; option = a } in
           let t : T (words d.kept i a) = of_true (sym c.contains.ensures ∙ w.if-contains.true) in
           let fails : Meets (count_on n) m (words d.seen) i a → ⊥ = λ h. of_false (sym w.meets.ensures ∙ w.if-not-meets.true) ((meets_dec n m (words d.seen) i a).1 h) in
-          let free : size w₀ < r₀ = pending_free m (words d.kept) (words d.seen) r₀ w₀ inv.0.inside inv.0.there i a inv.1 t in
-          let e : waits w.put.new.self ≡ add x w₀ = put_one (waits w.put.new.self) w₀ x (ltb (size w₀) r₀) w.put.ensures.waiting (lt-ltb (size w₀) r₀ free) in
+          let e : waits w.put.new.self ≡ add x w₀ = pending_waits m (words d.kept) (words d.seen) r₀ w₀ (waits w.put.new.self) i a inv.0.inside inv.0.there inv.1 t w.put.ensures.waiting in
           let r : Revising n m d₀ d₁ bytes (add x w₀) r₀ i (a + 1) = revising_out n m d₀ d bytes w₀ r₀ i a inv d₁ t fails w.take_out.ensures refl refl in
           let done : P d₁ w.put.new.self = (
             subst₂ (λ (b : Bag Choice) (k : ℕ). Revising n m d₀ d₁ bytes b k i (a + 1)) (sym e) (sym w.put.ensures.capacity) r,
@@ -55,19 +52,12 @@ loop-a-preserved g c =
           subst₂ P (sym w.domains-is) (sym w.options-is) done)
     ]
 
-pub returns : goal.returns
-returns g c =
+pub returns-clause-sound : goal.returns-clause-sound
+returns-clause-sound g c =
     let m = g.B.RuleBook.meaning c.args.self.now.book.now in
     let n : ℕ = c.args.self.now.c in
     let i : ℕ = c.args.i in
     let d : Domains = c.loop-a.domains in
     let d₁ : Domains = record { kept = d.kept; seen = d.seen; marked = c.without_bit-domains.result } in
     let inv = c.loop-a.invariant.0 in
-    record {
-      sound = sound_unmark n m d d₁ c.args.counts.now i inv.0 refl refl c.without_bit-domains.ensures (λ a al. inv.3 a (omega (arith, c.options-a-end.ensures, c.loop-a-test.false, al)));
-      pending = inv.1;
-      narrowed = narrowed_same n m c.args.domains.now d d₁ inv.2 refl;
-      seen = c.loop-a.invariant.1;
-      marked = λ x. c.without_bit-domains.ensures x ∙ ap (λ (z : ℕ). bit z x && not (eqb i x)) c.loop-a.invariant.2;
-      capacity = c.loop-a.invariant.3;
-    }
+    sound_unmark n m d d₁ c.args.counts.now i inv.0 refl refl c.without_bit-domains.ensures (λ a al. inv.3 a (omega (arith, c.options-a-end.ensures, c.loop-a-test.false, al)))

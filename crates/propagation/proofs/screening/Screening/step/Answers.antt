@@ -1,23 +1,9 @@
-use Rattle.std.proofs.Common.{ℕ, T, List, ap, ◌∙◌, arith}
+use Rattle.std.proofs.Common.{T}
 use Rattle.bits.specs.Bits.{bit}
-use Rattle.levels.specs.Sets.{words}
-use Rattle.levels.specs.Size.{size}
 use Rattle.propagation.specs.declared.domains.Domains.{Domains}
 use Rattle.propagation.proofs.Marking.{marks_in, marks_take}
 use Rattle.propagation.proofs.Revising.{narrowed_same}
 use Rattle.propagation.proofs.screening.Screening.step.Goals as goal
-
-pub revise-requires : goal.revise-requires
-revise-requires g c =
-    let m = g.B.RuleBook.meaning c.args.self.now.book.now in
-    let d : Domains = c.args.domains.now in
-    let inv = c.requires.holds in
-    let t : T (bit d.marked c.args.i) = marks_in m.items (g.I.WaitingList.room c.args.items.now) (bit d.marked) (g.I.WaitingList.waits c.args.items.now) c.args.i inv.marks in
-    record {
-      sound = inv.sound;
-      pending = inv.pending;
-      marked = (inv.marks.below c.args.i t, t);
-    }
 
 pub spread_all-requires : goal.spread_all-requires
 spread_all-requires g c =
@@ -30,15 +16,15 @@ spread_all-requires g c =
       };
     }
 
-pub returns : goal.returns
-returns g c =
+pub revise-requires-clause-marked : goal.revise-requires-clause-marked
+revise-requires-clause-marked g c =
     let m = g.B.RuleBook.meaning c.args.self.now.book.now in
-    record {
-      holds = c.spread_all.ensures.holds;
-      empty = c.spread_all.ensures.empty;
-      narrowed = narrowed_same c.args.self.now.c m c.args.domains.now c.revise.new.domains c.spread_all.new.domains c.revise.ensures.narrowed c.spread_all.ensures.kept;
-      less = omega (arith, ap (λ (s : List ℕ). size m (words s)) c.revise.ensures.seen, c.spread_all.ensures.less);
-      options = c.spread_all.ensures.options ∙ c.revise.ensures.capacity;
-      items = c.spread_all.ensures.items;
-      past = c.spread_all.ensures.past;
-    }
+    let d : Domains = c.args.domains.now in
+    let inv = c.requires.holds in
+    let t : T (bit d.marked c.args.i) = marks_in m.items (g.I.WaitingList.room c.args.items.now) (bit d.marked) (g.I.WaitingList.waits c.args.items.now) c.args.i inv.marks in
+    (inv.marks.below c.args.i t, t)
+
+pub returns-clause-narrowed : goal.returns-clause-narrowed
+returns-clause-narrowed g c =
+    let m = g.B.RuleBook.meaning c.args.self.now.book.now in
+    narrowed_same c.args.self.now.c m c.args.domains.now c.revise.new.domains c.spread_all.new.domains c.revise.ensures.narrowed c.spread_all.ensures.kept
