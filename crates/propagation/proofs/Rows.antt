@@ -1,5 +1,5 @@
 -- The table of support words: how it is filled, and that counts and witnesses read from it are those of the book.
-use Rattle.std.proofs.Common.{◌≡◌, ℕ, ◌+◌, ◌/◌, ◌%◌, ◌<◌, ◌≤◌, Bool, true, false, ◌&&◌, T, ◌↔◌, List, length, get_or, set, sym, refl, ap, ◌∙◌, subst, arith, get_or-set_other, get_or-set_same}
+use Rattle.std.proofs.Common.{◌≡◌, ℕ, ◌+◌, ◌/◌, ◌%◌, ◌<◌, ◌≤◌, Bool, true, false, ◌&&◌, T, List, length, get_or, set, sym, refl, ap, ◌∙◌, subst, arith, get_or-set_other, get_or-set_same}
 use native.Mathlib.Decide.{ℕ_discrete, dec_lt}
 use lib.Bits.{bit_and}
 use Rattle.bits.specs.Below.{count, some}
@@ -80,12 +80,14 @@ module _ (m : Meaning) (law : Lawful m) where
         ap (λ (z : Bool). words ws k w && (z && bit (get_or rows (place j b k) 0) w)) (sup i a k w ia.0 ia.1 (kl, ls.0) (omega (arith, most, ia.0, ia.1, kl)))
         ∙ ap (λ (z : Bool). words ws k w && (m.together i a k w && z)) (sup j b k w jb.0 jb.1 (kl, ls.1) (omega (arith, most, jb.0, jb.1, kl)))
 
-    pub witness_word : (r : Bool) → T r ↔ ((w : ℕ) × T (words ws k w && (bit (get_or rows (place i a k) 0) w && bit (get_or rows (place j b k) 0) w)))
+    pub witness_word : (r : Bool) → r ≡ some 32 (λ w. words ws k w && (bit (get_or rows (place i a k) 0) w && bit (get_or rows (place j b k) 0) w))
         → r ≡ some (m.options k) (witness_test m (words ws) i a j b k)
     witness_word r e =
-        same_T r (some (m.options k) (witness_test m (words ws) i a j b k))
-        (λ t. let x = e.0 t in let h : T (witness_test m (words ws) i a j b k x.0) = subst T (two x.0) x.1 in some_i (m.options k) (witness_test m (words ws) i a j b k) x.0 (there x.0 h) h)
-        (λ t. let x = some_e (m.options k) (witness_test m (words ws) i a j b k) t in e.1 (x.0, subst T (sym (two x.0)) x.2))
+        let f : ℕ → Bool = λ w. words ws k w && (bit (get_or rows (place i a k) 0) w && bit (get_or rows (place j b k) 0) w) in
+        let g : ℕ → Bool = witness_test m (words ws) i a j b k in
+        same_T r (some (m.options k) g)
+        (λ t. let x = some_e 32 f (subst T e t) in let h : T (g x.0) = subst T (two x.0) x.2 in some_i (m.options k) g x.0 (there x.0 h) h)
+        (λ t. let x = some_e (m.options k) g t in subst T (sym e) (some_i 32 f x.0 (omega (arith, x.1, law.options_most k)) (subst T (sym (two x.0)) x.2)))
       where
         there : (w : ℕ) → T (witness_test m (words ws) i a j b k w) → w < m.options k
         there w h =

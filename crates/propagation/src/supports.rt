@@ -44,8 +44,7 @@ pub fn fill_supports<B: RuleBook>(book: &B, rows: &mut [u32; 32768])
 {
     for n in 0..1024 * book.items() {
         if book.linked(n / 1024, n % 32) {
-            let word = support_word(book, rows, n / 1024, n / 32 % 32, n % 32);
-            rows[n] = word;
+            rows[n] = support_word(book, rows, n / 1024, n / 32 % 32, n % 32);
         }
     }
 }

@@ -1,5 +1,5 @@
 // Whether an option meets the count c in a set. Every test reads the table, so the book is asked only for links.
-ghost use Rattle.std.specs.Prelude.{◌≡◌, ℕ, ◌*◌, ◌<◌, ◌≤◌, ◌&&◌, T, ◌↔◌, length};
+ghost use Rattle.std.specs.Prelude.{◌≡◌, ℕ, ◌*◌, ◌<◌, ◌≤◌, ◌&&◌, length};
 ghost use Rattle.bits.specs.Below.{every, some};
 ghost use Rattle.bits.specs.Bits.{bit};
 ghost use Rattle.levels.specs.Counts.{partners};
@@ -15,7 +15,7 @@ use checking::conditions::is_third;
 
 // Whether three words share a bit.
 fn common(x: u32, y: u32, z: u32) -> bool
-    ensures { T result ↔ ((w : ℕ) × T (bit z w && (bit x w && bit y w))) }
+    ensures { result ≡ some 32 (λ b. bit z b && (bit x b && bit y b)) }
 {
     x & y & z != 0
 }

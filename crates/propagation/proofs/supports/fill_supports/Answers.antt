@@ -12,7 +12,7 @@ loop-n-preserved g c =
     let lt : n < length c.loop-n.rows = omega (arith, c.items-n-end.ensures, c.loop-n-test.true, law.items_most, c.loop-n.invariant.1) in
     elim c.if-linked.branch [
       | then-linked w ↦ (
-        subst (SupportsBelow m (n + 1)) (sym w.rows-is) (supports_set m law n c.loop-n.rows c.loop-n.invariant.0 w.support_word-word.result lt w.support_word-word.ensures),
+        subst (SupportsBelow m (n + 1)) (sym w.rows-is) (supports_set m law n c.loop-n.rows c.loop-n.invariant.0 w.support_word.result lt w.support_word.ensures),
         ap length w.rows-is ∙ (simp length-set c.loop-n.invariant.1),
       )
       | else-linked w ↦ (subst (SupportsBelow m (n + 1)) (sym w.rows-is) (supports_skip m law n c.loop-n.rows c.loop-n.invariant.0 (sym c.linked.ensures ∙ w.if-linked.false)), ap length w.rows-is ∙ c.loop-n.invariant.1)
