@@ -2,7 +2,7 @@
 -- Lowered: the counts on j of the first n options of item i are lowered where the test f says so, and nothing else has changed
 -- LoweredAll: the same of the first n items, where they are linked with j
 -- Tabled: the first n places hold what f says, and nothing else has changed
-use Rattle.std.proofs.Common.{◌≡◌, ℕ, ◌+◌, ◌-◌, ◌*◌, ◌/◌, ◌%◌, ◌<◌, ◌≤◌, Bool, ◌&&◌, T, ◌≢◌, List, length, get_or, set, sym, ap, ◌∙◌, subst, arith, get_or-set_other, get_or-set_same}
+use Rattle.std.proofs.Common.{◌≡◌, ℕ, ◌+◌, ◌-◌, ◌/◌, ◌%◌, ◌<◌, ◌≤◌, Bool, ◌&&◌, T, ◌≢◌, List, length, get_or, set, sym, ap, ◌∙◌, subst, arith, get_or-set_other, get_or-set_same}
 use native.Mathlib.Decide.{ℕ_discrete}
 use Rattle.bits.specs.Below.{one_if}
 use Rattle.bits.proofs.Counts.{one_if_yes, one_if_no}
@@ -109,6 +109,3 @@ at_place P i a j al jl h =
 
 pub apart_on : (x a k y b j : ℕ) → a < 32 → b < 32 → k < 32 → j < 32 → k ≢ j → place x a k ≢ place y b j
 apart_on x a k y b j al bl kl jl ne e = ne (omega arith)
-
-pub past_place : (n k i a j : ℕ) → i < n → a < 32 → j < 32 → 1024 * n ≤ k → k ≢ place i a j
-past_place n k i a j il al jl h e = omega arith

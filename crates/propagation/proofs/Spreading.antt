@@ -16,9 +16,9 @@ use Rattle.levels.proofs.Mono.{counts_near}
 use Rattle.levels.proofs.Partners.{partners_drop, partners_stay, partners_else}
 use Rattle.propagation.specs.declared.domains.Domains.{Domains}
 use Rattle.levels.specs.Counted.{place, byte}
-use Rattle.propagation.specs.State.{There, Sub, Support, Met, Sound, Past}
+use Rattle.propagation.specs.State.{There, Sub, Support, Met, Sound}
 use Rattle.propagation.specs.Lowering.{PartnersLeft, Lowers, SameElse}
-use Rattle.propagation.proofs.Bytes.{apart_on, past_place}
+use Rattle.propagation.proofs.Bytes.{apart_on}
 
 -- the invariant of domains whose sets are known
 pub sound_of : (c : ℕ) (m : Meaning) (d : Domains) (bytes : List ℕ) (kept seen : Set) → words d.kept ≡ kept → words d.seen ≡ seen
@@ -99,8 +99,3 @@ module _ (c : ℕ) (m : Meaning) (law : Lawful m) (d d' : Domains) (old new : Li
       (λ i a il al. let few = law.options_most i in mine i a il (omega arith))
       (λ i a k il al kl ne. let few = law.options_most i in others (place i a k) (λ x y xl yl. apart_on i a k x y j (omega arith) yl (omega arith) (omega arith) ne)))
       (met_without m kept seen j b s.there t c (bit d.marked) (bit d'.marked) s.met done still)
-
-pub past_lowered : (m : Meaning) → Lawful m → (j : ℕ) → j < m.items → (old new : List ℕ) → SameElse m j old new → Past m old new
-past_lowered m law j jl old new others k h =
-    let most = law.items_most in
-    others k (λ i a il al. past_place m.items k i a j il al (omega arith) h)
