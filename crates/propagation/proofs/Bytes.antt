@@ -2,7 +2,7 @@
 -- Lowered: the counts on j of the first n options of item i are lowered where the test f says so, and nothing else has changed
 -- LoweredAll: the same of the first n items, where they are linked with j
 -- Tabled: the first n places hold what f says, and nothing else has changed
-use Rattle.std.proofs.Common.{◌≡◌, ℕ, ◌+◌, ◌-◌, ◌*◌, ◌/◌, ◌%◌, ◌<◌, ◌≤◌, Bool, ◌&&◌, T, ◌≢◌, List, length, get_or, set, sym, ap, ◌∙◌, subst, arith, get_or-set_other, get_or-set_same}
+use Rattle.std.proofs.Common.{◌≡◌, ℕ, ◌+◌, ◌-◌, ◌/◌, ◌%◌, ◌<◌, ◌≤◌, Bool, ◌&&◌, T, ◌≢◌, List, length, get_or, set, sym, ap, ◌∙◌, subst, arith, get_or-set_other, get_or-set_same}
 use native.Mathlib.Decide.{ℕ_discrete}
 use Rattle.bits.specs.Below.{one_if}
 use Rattle.bits.proofs.Counts.{one_if_yes, one_if_no}
@@ -99,10 +99,6 @@ module _ (old now new : List ℕ) (f : ℕ → ℕ) (k : ℕ) (inv : Tabled old 
       tabled_more (ap (λ (l : List ℕ). get_or l k 0) is ∙ (get_or-set_same now k v 0 lt ∙ e))
       (λ x ne. ap (λ (l : List ℕ). get_or l x 0) is ∙ get_or-set_other now k x v 0 ne)
 
-  pub tabled_same : new ≡ now → get_or old k 0 ≡ f k → Tabled old new f (k + 1)
-  tabled_same is e =
-      tabled_more (ap (λ (l : List ℕ). get_or l k 0) is ∙ (inv.1 k (omega arith) ∙ e)) (λ x ne. ap (λ (l : List ℕ). get_or l x 0) is)
-
 -- a place is that of its item, its option and its second item
 pub at_place : (P : ℕ → ℕ → ℕ → Type 0) (i a j : ℕ) → a < 32 → j < 32 → P (place i a j / 1024) (place i a j / 32 % 32) (place i a j % 32) → P i a j
 at_place P i a j al jl h =
@@ -113,6 +109,3 @@ at_place P i a j al jl h =
 
 pub apart_on : (x a k y b j : ℕ) → a < 32 → b < 32 → k < 32 → j < 32 → k ≢ j → place x a k ≢ place y b j
 apart_on x a k y b j al bl kl jl ne e = ne (omega arith)
-
-pub past_place : (n k i a j : ℕ) → i < n → a < 32 → j < 32 → 1024 * n ≤ k → k ≢ place i a j
-past_place n k i a j il al jl h e = omega arith

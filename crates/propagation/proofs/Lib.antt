@@ -1,4 +1,3 @@
-pub mod Sets
 pub mod Marking
 pub mod Waiting
 pub mod Bytes

@@ -1,8 +1,9 @@
 -- The item list: one item more and one less, what a marked item and the empty list mean.
-use Rattle.std.proofs.Common.{◌≡◌, ℕ, ◌+◌, ◌<◌, ◌≤◌, Bool, true, false, cond, not, ◌&&◌, ◌||◌, T, eqb, sym, refl, ap, ◌∙◌, subst, inl, inr, arith, eqb→eq}
+use Rattle.std.proofs.Common.{◌≡◌, ℕ, ◌+◌, ◌<◌, ◌≤◌, Bool, true, false, cond, not, ◌&&◌, ◌||◌, T, eqb, ltb, sym, refl, ap, ◌∙◌, subst, inl, inr, arith, eqb→eq, lt-ltb}
 use lib.Dec.{eqb_refl}
 use Rattle.bags.specs.Bags.{Bag, none, add, many, size as number}
-use Rattle.bags.proofs.BagLaws.{many_add, size_add}
+use Rattle.bags.proofs.BagLaws.{many_add, size_add, put_one}
+use Rattle.lists.specs.Calls.{put_waits}
 use Rattle.bits.specs.Below.{count, one_if}
 use Rattle.bits.proofs.Counts.{count_none, count_le, count_drop, one_if_back, one_if_none}
 use Rattle.bits.proofs.Tests.{and_l, or_cases, or_r, to_true, of_true, of_false, same_T, eqb_yes}
@@ -81,12 +82,16 @@ module _ (n room : ℕ) (f : ℕ → Bool) (w : Bag ℕ) (x : ℕ) where
         fits = l.fits;
       }
 
-  pub marks_free : Marks n f w room → x < n → f x ≡ false → number w < room
+  marks_free : Marks n f w room → x < n → f x ≡ false → number w < room
   marks_free l lt no' =
       let f' : ℕ → Bool = λ k. f k || eqb x k in
       let more = marks_put n room f f' w x l lt no' (λ k. refl) in
       let s = size_add x w in
       omega (arith, more.total, s, count_le n f', l.fits)
+
+-- the list takes an item that is not marked yet
+pub marks_waits : (n room : ℕ) (f : ℕ → Bool) (w new : Bag ℕ) (x : ℕ) → Marks n f w room → x < n → f x ≡ false → new ≡ put_waits x w room → new ≡ add x w
+marks_waits n room f w new x l lt no' is = put_one new w x (ltb (number w) room) is (lt-ltb (number w) room (marks_free n room f w x l lt no'))
 
 pub marks_end : (n room : ℕ) (f : ℕ → Bool) → Marks n f none room → (x : ℕ) → T (f x) → ⊥
 marks_end n room f l x t = one_if_none (f x) (sym (l.once x)) t

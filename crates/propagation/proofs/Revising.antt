@@ -25,9 +25,6 @@ narrowed_same c m d₀ d d' n e = record {
   safe = λ s cs si i a h. let r = n.safe s cs si i a h in (r.0, r.1, subst (λ (k : List ℕ). T (words k i a)) (sym e) r.2);
 }
 
-pub narrowed_none : (c : ℕ) (m : Meaning) (d : Domains) → Narrowed c m d d
-narrowed_none c m d = record { less = λ i a t. t; safe = λ s cs si. si }
-
 pub narrowed_more : (c : ℕ) (m : Meaning) (d d' d'' : Domains) → Narrowed c m d d' → Narrowed c m d' d'' → Narrowed c m d d''
 narrowed_more c m d d' d'' p q = record { less = λ i a t. p.less i a (q.less i a t); safe = λ s cs si. q.safe s cs (p.safe s cs si) }
 

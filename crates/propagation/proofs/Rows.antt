@@ -1,51 +1,26 @@
 -- The table of support words: how it is filled, and that counts and witnesses read from it are those of the book.
-use Rattle.std.proofs.Common.{◌≡◌, ℕ, ◌+◌, ◌/◌, ◌%◌, ◌<◌, ◌≤◌, Bool, true, false, ◌&&◌, ◌||◌, T, eqb, ◌≢◌, ◌↔◌, List, length, get_or, set, sym, refl, ap, ◌∙◌, subst, arith, get_or-set_other, get_or-set_same}
+use Rattle.std.proofs.Common.{◌≡◌, ℕ, ◌+◌, ◌/◌, ◌%◌, ◌<◌, ◌≤◌, Bool, true, false, ◌&&◌, T, List, length, get_or, set, sym, refl, ap, ◌∙◌, subst, arith, get_or-set_other, get_or-set_same}
 use native.Mathlib.Decide.{ℕ_discrete, dec_lt}
 use lib.Bits.{bit_and}
 use Rattle.bits.specs.Below.{count, some}
 use Rattle.bits.specs.Bits.{bit}
 use Rattle.bits.proofs.Belows.{some_e, some_i}
 use Rattle.bits.proofs.Counts.{count_cong, count_cut}
-use Rattle.bits.proofs.Tests.{and_l, and_r, of_false, same_T, eqb_yes, eqb_no}
+use Rattle.bits.proofs.Tests.{and_l, and_r, of_false, same_T}
 use Rattle.bits.proofs.Words.{bit_of_and}
 use Rattle.meaning.specs.Meaning.{Meaning, Lawful}
 use Rattle.levels.specs.Sets.{words}
 use Rattle.levels.specs.Levels.{Linked}
 use Rattle.levels.specs.Counts.{partners}
-use Rattle.levels.specs.Tests.{partner_test, witness_test}
+use Rattle.levels.specs.Tests.{partner_test, third_test, witness_test}
 use Rattle.levels.specs.Counted.{place}
 use Rattle.propagation.specs.Supports.{Supports, SupportsBelow}
 use Rattle.propagation.proofs.Bytes.{at_place}
+use Rattle.propagation.proofs.Testing.{third_links}
 
 -- Bits below n of the word t are what f says, and it has none from there on.
 abbrev pub Bits : (ℕ → Bool) → (ℕ → Bool) → ℕ → Type 0
 Bits f t n = ((x : ℕ) → x < n → t x ≡ f x) × ((x : ℕ) → n ≤ x → t x ≡ false)
-
-or_no : (b x : Bool) → (b || (x && false)) ≡ b
-or_no true x = refl
-or_no false true = refl
-or_no false false = refl
-
-or_here : (x : Bool) → (false || (x && true)) ≡ x
-or_here true = refl
-or_here false = refl
-
-pub bits_more : (f t t' : ℕ → Bool) (n : ℕ) → Bits f t n → (on : Bool) → ((k : ℕ) → t' k ≡ (t k || (on && eqb n k))) → on ≡ f n → Bits f t' (n + 1)
-bits_more f t t' n inv on h e = (
-  (λ x xl. elim (ℕ_discrete x n) [
-    | yes q ↦ subst (λ (y : ℕ). t' y ≡ f y) (sym q) here
-    | no ne ↦ same x ne ∙ inv.0 x (omega arith)
-  ]),
-  λ x xl. let ne : x ≢ n = omega arith in same x ne ∙ inv.1 x (omega arith),
-)
-  where
-    same : (x : ℕ) → x ≢ n → t' x ≡ t x
-    same x ne = h x ∙ (ap (λ (b : Bool). t x || (on && b)) (eqb_no n x (λ q. ne (sym q))) ∙ or_no (t x) on)
-
-    here : t' n ≡ f n
-    here =
-        h n ∙ (ap (λ (b : Bool). b || (on && eqb n n)) (inv.1 n (omega arith))
-        ∙ (ap (λ (b : Bool). false || (on && b)) (eqb_yes n n refl) ∙ (or_here on ∙ e)))
 
 pub and_swap : (a b : Bool) → (a && b) ≡ (b && a)
 and_swap true true = refl
@@ -74,13 +49,6 @@ module _ (m : Meaning) (law : Lawful m) where
       → bit (get_or rows (place k w i) 0) a ≡ m.together i a k w
   support_back n rows i a k w sup il wl l lt = sup k w i a l.0 wl (linked_back i k il l) lt ∙ law.together_mutual k w i a
 
-  pub support_all : (i a k : ℕ) (t : ℕ → Bool) → Bits (m.together i a k) t (m.options k) → (w : ℕ) → t w ≡ m.together i a k w
-  support_all i a k t b w =
-      elim (dec_lt w (m.options k)) [
-        | yes lt ↦ b.0 w lt
-        | no nlt ↦ b.1 w (omega arith) ∙ sym (missing i a k w (omega arith))
-      ]
-
   -- the partners of an option on a linked item are the bits that its word shares with the set
   pub support_count : (n : ℕ) (rows ws : List ℕ) (i a j : ℕ) → SupportsBelow m n rows → i < m.items → a < 32 → Linked m i j → place i a j < n
       → count 32 (λ b. words ws j b && bit (get_or rows (place i a j) 0) b) ≡ partners m (words ws) i a j
@@ -95,28 +63,31 @@ module _ (m : Meaning) (law : Lawful m) where
       and_no false = refl
 
   -- the bit of a partner in the word that is shared with the set
-  pub partner_word : (rows ws : List ℕ) (i a j b : ℕ) → Supports m rows → i < m.items → a < 32 → Linked m i j
+  pub partner_word : (rows ws : List ℕ) (i a j b : ℕ) → Supports m rows → (i < m.items) × (a < 32) → Linked m i j
       → bit (bit_and (get_or rows (place i a j) 0) (get_or ws j 0)) b ≡ partner_test m (words ws) i a j b
-  partner_word rows ws i a j b sup il al l =
+  partner_word rows ws i a j b sup ia l =
       let most = law.items_most in
-      let jl = l.0 in
       bit_of_and (get_or rows (place i a j) 0) (get_or ws j 0) b
-      ∙ (ap (λ (z : Bool). z && words ws j b) (sup i a j b il al l (omega arith)) ∙ and_swap (m.together i a j b) (words ws j b))
+      ∙ (ap (λ (z : Bool). z && words ws j b) (sup i a j b ia.0 ia.1 l (omega (arith, most, ia.0, ia.1, l.0))) ∙ and_swap (m.together i a j b) (words ws j b))
 
   -- the witnesses on a third item are the bits that two words share with the set
-  module _ (n : ℕ) (rows ws : List ℕ) (i a j b k : ℕ) (sup : SupportsBelow m n rows) (il : i < m.items) (al : a < 32) (jl : j < m.items) (bl : b < 32)
-      (ik : Linked m i k) (jk : Linked m j k) (before : place i a k < n) (second : place j b k < n) where
+  module _ (rows ws : List ℕ) (i a j b k : ℕ) (sup : Supports m rows) (ia : (i < m.items) × (a < 32)) (jb : (j < m.items) × (b < 32)) (kl : k < m.items)
+      (third : T (third_test m i j k)) where
     two : (w : ℕ) → (words ws k w && (bit (get_or rows (place i a k) 0) w && bit (get_or rows (place j b k) 0) w)) ≡ witness_test m (words ws) i a j b k w
     two w =
-        ap (λ (z : Bool). words ws k w && (z && bit (get_or rows (place j b k) 0) w)) (sup i a k w il al ik before)
-        ∙ ap (λ (z : Bool). words ws k w && (m.together i a k w && z)) (sup j b k w jl bl jk second)
+        let ls = third_links m i j k third in
+        let most = law.items_most in
+        ap (λ (z : Bool). words ws k w && (z && bit (get_or rows (place j b k) 0) w)) (sup i a k w ia.0 ia.1 (kl, ls.0) (omega (arith, most, ia.0, ia.1, kl)))
+        ∙ ap (λ (z : Bool). words ws k w && (m.together i a k w && z)) (sup j b k w jb.0 jb.1 (kl, ls.1) (omega (arith, most, jb.0, jb.1, kl)))
 
-    pub witness_word : (r : Bool) → T r ↔ ((w : ℕ) × T (words ws k w && (bit (get_or rows (place i a k) 0) w && bit (get_or rows (place j b k) 0) w)))
+    pub witness_word : (r : Bool) → r ≡ some 32 (λ w. words ws k w && (bit (get_or rows (place i a k) 0) w && bit (get_or rows (place j b k) 0) w))
         → r ≡ some (m.options k) (witness_test m (words ws) i a j b k)
     witness_word r e =
-        same_T r (some (m.options k) (witness_test m (words ws) i a j b k))
-        (λ t. let x = e.0 t in let h : T (witness_test m (words ws) i a j b k x.0) = subst T (two x.0) x.1 in some_i (m.options k) (witness_test m (words ws) i a j b k) x.0 (there x.0 h) h)
-        (λ t. let x = some_e (m.options k) (witness_test m (words ws) i a j b k) t in e.1 (x.0, subst T (sym (two x.0)) x.2))
+        let f : ℕ → Bool = λ w. words ws k w && (bit (get_or rows (place i a k) 0) w && bit (get_or rows (place j b k) 0) w) in
+        let g : ℕ → Bool = witness_test m (words ws) i a j b k in
+        same_T r (some (m.options k) g)
+        (λ t. let x = some_e 32 f (subst T e t) in let h : T (g x.0) = subst T (two x.0) x.2 in some_i (m.options k) g x.0 (there x.0 h) h)
+        (λ t. let x = some_e (m.options k) g t in subst T (sym e) (some_i 32 f x.0 (omega (arith, x.1, law.options_most k)) (subst T (sym (two x.0)) x.2)))
       where
         there : (w : ℕ) → T (witness_test m (words ws) i a j b k w) → w < m.options k
         there w h =

@@ -1,5 +1,5 @@
 -- Spreading the crossing-out of b of j: the counts that it lowers and the items that it marks keep the invariant.
-use Rattle.std.proofs.Common.{◌≡◌, ℕ, ◌-◌, ◌*◌, ◌<◌, ◌≤◌, Bool, not, ◌&&◌, T, ◌≢◌, List, length, get_or, sym, ap, ◌∙◌, subst, subst₂, inl, inr, arith}
+use Rattle.std.proofs.Common.{◌≡◌, ℕ, ◌-◌, ◌*◌, ◌<◌, ◌≤◌, Bool, not, ◌&&◌, T, ◌≢◌, List, length, sym, ap, ◌∙◌, subst, subst₂, inl, inr, arith}
 use mathlib.Core.Path.{fun_ext}
 use native.Mathlib.Decide.{ℕ_discrete}
 use Rattle.bits.specs.Below.{one_if}
@@ -16,8 +16,9 @@ use Rattle.levels.proofs.Mono.{counts_near}
 use Rattle.levels.proofs.Partners.{partners_drop, partners_stay, partners_else}
 use Rattle.propagation.specs.declared.domains.Domains.{Domains}
 use Rattle.levels.specs.Counted.{place, byte}
-use Rattle.propagation.specs.State.{There, Sub, Support, Met, Sound, Past}
-use Rattle.propagation.proofs.Bytes.{apart_on, past_place}
+use Rattle.propagation.specs.State.{There, Sub, Support, Met, Sound}
+use Rattle.propagation.specs.Lowering.{PartnersLeft, Lowers, SameElse}
+use Rattle.propagation.proofs.Bytes.{apart_on}
 
 -- the invariant of domains whose sets are known
 pub sound_of : (c : ℕ) (m : Meaning) (d : Domains) (bytes : List ℕ) (kept seen : Set) → words d.kept ≡ kept → words d.seen ≡ seen
@@ -35,8 +36,7 @@ there_without m s i a there j b t = let h = there j b (and_l (s j b) (not (is_sa
 
 module _ (m : Meaning) (kept seen : Set) (j b : ℕ) (there : There m seen) (t : T (seen j b)) where
   -- a count that is lowered was not 0
-  pub support_one : (bytes : List ℕ) → Support m kept seen bytes → Sub kept seen
-      → (i a : ℕ) → i < m.items → a < 32 → T (m.linked i j) → T (kept i a && m.together i a j b) → 1 ≤ byte bytes i a j
+  pub support_one : (bytes : List ℕ) → Support m kept seen bytes → Sub kept seen → PartnersLeft m kept j b bytes
   support_one bytes sup sub i a il al l h =
       let k : T (kept i a) = and_l (kept i a) (m.together i a j b) h in
       let th = there j b t in
@@ -81,17 +81,11 @@ module _ (m : Meaning) (kept seen : Set) (j b : ℕ) (there : There m seen) (t :
       (λ k x l. sym (without_else seen j b k x (λ e. n (done i h.0 (subst (λ (y : ℕ). T (m.linked i y)) e l.1)))))
       (met i a h (λ u. n (still i u)))
 
-abbrev pub LoweredOn : Meaning → Set → ℕ → ℕ → List ℕ → List ℕ → Type 0
-LoweredOn m kept j b old new = (i a : ℕ) → i < m.items → a < 32 → byte new i a j ≡ byte old i a j - one_if (m.linked i j && (kept i a && m.together i a j b))
-
-abbrev pub OthersOn : Meaning → ℕ → List ℕ → List ℕ → Type 0
-OthersOn m j old new = (k : ℕ) → ((i a : ℕ) → i < m.items → a < 32 → k ≢ place i a j) → get_or new k 0 ≡ get_or old k 0
-
 module _ (c : ℕ) (m : Meaning) (law : Lawful m) (d d' : Domains) (old new : List ℕ) (j b : ℕ) (s : Sound c m d old)
     (out : T (words d.seen j b && not (words d.kept j b))) where
   pub sound_spread : d'.kept ≡ d.kept → ((i a : ℕ) → words d'.seen i a ≡ without (words d.seen) j b i a)
       → ((x : ℕ) → x < m.items → T (m.linked x j) → T (bit d'.marked x)) → ((x : ℕ) → T (bit d.marked x) → T (bit d'.marked x))
-      → length new ≡ length old → LoweredOn m (words d.kept) j b old new → OthersOn m j old new → Sound c m d' new
+      → length new ≡ length old → Lowers m (words d.kept) j b old new → SameElse m j old new → Sound c m d' new
   sound_spread ek es done still same mine others =
       let kept : Set = words d.kept in
       let seen : Set = words d.seen in
@@ -105,8 +99,3 @@ module _ (c : ℕ) (m : Meaning) (law : Lawful m) (d d' : Domains) (old new : Li
       (λ i a il al. let few = law.options_most i in mine i a il (omega arith))
       (λ i a k il al kl ne. let few = law.options_most i in others (place i a k) (λ x y xl yl. apart_on i a k x y j (omega arith) yl (omega arith) (omega arith) ne)))
       (met_without m kept seen j b s.there t c (bit d.marked) (bit d'.marked) s.met done still)
-
-pub past_lowered : (m : Meaning) → Lawful m → (j : ℕ) → j < m.items → (old new : List ℕ) → OthersOn m j old new → Past m old new
-past_lowered m law j jl old new others k h =
-    let most = law.items_most in
-    others k (λ i a il al. past_place m.items k i a j il al (omega arith) h)

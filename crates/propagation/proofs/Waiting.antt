@@ -1,8 +1,9 @@
 -- The option list: an option is crossed out and waits, it is spread and waits no more, and where none waits all that is seen is kept.
-use Rattle.std.proofs.Common.{◌≡◌, ℕ, ◌+◌, ◌<◌, ◌≤◌, Bool, true, false, cond, not, ◌&&◌, T, sym, refl, ap, ◌∙◌, subst, subst₂, inl, inr, arith}
+use Rattle.std.proofs.Common.{◌≡◌, ℕ, ◌+◌, ◌<◌, ◌≤◌, Bool, true, false, cond, not, ◌&&◌, T, ltb, sym, refl, ap, ◌∙◌, subst, subst₂, inl, inr, arith, lt-ltb}
 use mathlib.Core.Path.{fun_ext}
 use Rattle.bags.specs.Bags.{Bag, none, add, many, size as number}
-use Rattle.bags.proofs.BagLaws.{many_add, size_add}
+use Rattle.bags.proofs.BagLaws.{many_add, size_add, put_one}
+use Rattle.lists.specs.Calls.{put_waits}
 use Rattle.bits.specs.Below.{one_if}
 use Rattle.bits.proofs.Counts.{one_if_back, one_if_none}
 use Rattle.bits.proofs.Tests.{and_l, and_i, not_i, T_or_not, same_T}
@@ -61,13 +62,22 @@ module _ (m : Meaning) (kept seen : Set) (room : ℕ) (w : Bag Choice) where
         fits = p.fits;
       }
 
-  pub pending_free : Sub kept seen → There m seen → (i a : ℕ) → Pending m kept seen w room → T (kept i a) → number w < room
+  pending_free : Sub kept seen → There m seen → (i a : ℕ) → Pending m kept seen w room → T (kept i a) → number w < room
   pending_free sub there i a p t =
       let th = there i a (sub i a t) in
       let e = size_drop m kept i a (th.0, th.1, t) in
       omega (arith, e, p.total, p.fits)
 
-  module _ (x : Choice) (p : Pending m kept seen (add x w) room) where
+  -- the list takes an option that is crossed out
+  pub pending_waits : (new : Bag Choice) (i a : ℕ) → Sub kept seen → There m seen → Pending m kept seen w room → T (kept i a)
+      → new ≡ put_waits (record { item = i; option = a }) w room → new ≡ add (record { item = i; option = a }) w
+  pending_waits new i a sub there p t is =
+      put_one new w (record { item = i; option = a }) (ltb (number w) room) is (lt-ltb (number w) room (pending_free sub there i a p t))
+
+  module _ (x : Choice) (before : Bag Choice) (taken : before ≡ add x w) (waiting : Pending m kept seen before room) where
+    p : Pending m kept seen (add x w) room
+    p = subst (λ (b : Bag Choice). Pending m kept seen b room) taken waiting
+
     pub pending_in : T (seen x.item x.option && not (kept x.item x.option))
     pending_in =
         let i : ℕ = x.item in

@@ -1,3 +1,4 @@
 pub mod Supports
 pub mod Lists
 pub mod State
+pub mod Lowering

@@ -7,6 +7,7 @@ mod lower;
 mod marks;
 pub mod propagate;
 mod revise;
+mod screening;
 mod spread;
 mod supports;
 mod tests;

@@ -1,11 +1,12 @@
 // The support counts that a crossing-out lowers.
-ghost use Rattle.std.specs.Prelude.{◌≡◌, ℕ, ◌+◌, ◌-◌, ◌*◌, ◌<◌, ◌≤◌, ◌&&◌, T, ◌≢◌, length, slice_index};
+ghost use Rattle.std.specs.Prelude.{◌≡◌, ℕ, ◌+◌, ◌-◌, ◌*◌, ◌<◌, ◌≤◌, T, ◌≢◌, length, slice_index};
 ghost use Rattle.bits.specs.Below.{one_if};
 ghost use Rattle.bits.specs.Bits.{bit};
 ghost use Rattle.levels.specs.Sets.{words};
 ghost use Rattle.levels.specs.Counted.{byte, place};
-ghost use Rattle.propagation.specs.Supports.{Supports};
+ghost use Rattle.propagation.specs.Lowering.{Lowers, PartnersLeft, SameElse};
 
+use crate::screening::Screening;
 use bits::bit::has_bit;
 use books::rule::RuleBook;
 
@@ -24,25 +25,19 @@ fn lower(counts: &mut [u8], word: u32, i: usize, j: usize)
     }
 }
 
-// Lowers the count on j of each kept option that has b of j as a partner.
-pub fn lower_linked<B: RuleBook>(
-    book: &B,
-    rows: &[u32; 32768],
-    live: &[u32; 32],
-    counts: &mut [u8],
-    j: usize,
-    b: usize,
-)
-    requires long { 1024 * (B.RuleBook.meaning book.now).items ≤ length counts.old }
-    requires known { Supports (B.RuleBook.meaning book.now) rows.now }
-    requires there { (j < (B.RuleBook.meaning book.now).items) × (b < 32) }
-    requires one { (i a : ℕ) → i < (B.RuleBook.meaning book.now).items → a < 32 → T ((B.RuleBook.meaning book.now).linked i j) → T (words live.now i a && (B.RuleBook.meaning book.now).together i a j b) → 1 ≤ byte counts.old i a j }
-    ensures mine { (i a : ℕ) → i < (B.RuleBook.meaning book.now).items → a < 32 → byte counts.new i a j ≡ byte counts.old i a j - one_if ((B.RuleBook.meaning book.now).linked i j && (words live.now i a && (B.RuleBook.meaning book.now).together i a j b)) }
-    ensures others { (k : ℕ) → ((i a : ℕ) → i < (B.RuleBook.meaning book.now).items → a < 32 → k ≢ place i a j) → slice_index counts.new k ≡ slice_index counts.old k }
-{
-    for i in 0..book.items() {
-        if book.linked(i, j) {
-            lower(counts, rows[1024 * j + 32 * b + i] & live[i], i, j);
+impl<B: RuleBook> Screening<'_, B> {
+    // Lowers the count on j of each kept option that has b of j as a partner.
+    pub fn lower_linked(&self, kept: &[u32; 32], counts: &mut [u8], j: usize, b: usize)
+        requires long { 1024 * (B.meaning self.now.book.now).items ≤ length counts.old }
+        requires there { (j < (B.meaning self.now.book.now).items) × (b < 32) }
+        requires one { PartnersLeft (B.meaning self.now.book.now) (words kept.now) j b counts.old }
+        ensures mine { Lowers (B.meaning self.now.book.now) (words kept.now) j b counts.old counts.new }
+        ensures others { SameElse (B.meaning self.now.book.now) j counts.old counts.new }
+    {
+        for i in 0..self.book.items() {
+            if self.book.linked(i, j) {
+                lower(counts, self.rows[1024 * j + 32 * b + i] & kept[i], i, j);
+            }
         }
     }
 }

@@ -13,12 +13,12 @@ use lists::waiting::WaitingList;
 pub fn mark<I: WaitingList<u8>>(n: usize, marked: &mut u32, items: &mut I, i: usize)
     requires few { n ≤ 32 }
     requires there { i < n }
-    requires marks { Marks n (bit marked.old) (I.WaitingList.waits items.old) (I.WaitingList.room items.old) }
-    ensures marks { Marks n (bit marked.new) (I.WaitingList.waits items.new) (I.WaitingList.room items.new) }
+    requires marks { Marks n (bit marked.old) (I.waits items.old) (I.room items.old) }
+    ensures marks { Marks n (bit marked.new) (I.waits items.new) (I.room items.new) }
     ensures done { T (bit marked.new i) }
     ensures still { (x : ℕ) → T (bit marked.old x) → T (bit marked.new x) }
-    ensures few { size (I.WaitingList.waits items.new) ≤ size (I.WaitingList.waits items.old) + 1 }
-    ensures capacity { I.WaitingList.room items.new ≡ I.WaitingList.room items.old }
+    ensures few { size (I.waits items.new) ≤ size (I.waits items.old) + 1 }
+    ensures capacity { I.room items.new ≡ I.room items.old }
 {
     if !has_bit(*marked, i) {
         *marked = put_bit(*marked, i, true);
@@ -33,12 +33,12 @@ pub fn mark_linked<B: RuleBook, I: WaitingList<u8>>(
     items: &mut I,
     j: usize,
 )
-    requires { Marks (B.RuleBook.meaning book.now).items (bit marked.old) (I.WaitingList.waits items.old) (I.WaitingList.room items.old) }
-    ensures marks { Marks (B.RuleBook.meaning book.now).items (bit marked.new) (I.WaitingList.waits items.new) (I.WaitingList.room items.new) }
-    ensures done { (x : ℕ) → x < (B.RuleBook.meaning book.now).items → T ((B.RuleBook.meaning book.now).linked x j) → T (bit marked.new x) }
+    requires { Marks (B.meaning book.now).items (bit marked.old) (I.waits items.old) (I.room items.old) }
+    ensures marks { Marks (B.meaning book.now).items (bit marked.new) (I.waits items.new) (I.room items.new) }
+    ensures done { (x : ℕ) → x < (B.meaning book.now).items → T ((B.meaning book.now).linked x j) → T (bit marked.new x) }
     ensures still { (x : ℕ) → T (bit marked.old x) → T (bit marked.new x) }
-    ensures few { size (I.WaitingList.waits items.new) ≤ size (I.WaitingList.waits items.old) + 32 }
-    ensures capacity { I.WaitingList.room items.new ≡ I.WaitingList.room items.old }
+    ensures few { size (I.waits items.new) ≤ size (I.waits items.old) + 32 }
+    ensures capacity { I.room items.new ≡ I.room items.old }
 {
     let n = book.items();
     for i in 0..n {
@@ -48,13 +48,13 @@ pub fn mark_linked<B: RuleBook, I: WaitingList<u8>>(
     }
 }
 
-// Marks all n items.
+// Marks all n items. It shares no test with mark_linked: of what a closure answers a clause can say only that it may.
 pub fn mark_all<I: WaitingList<u8>>(n: usize, marked: &mut u32, items: &mut I)
     requires few { n ≤ 32 }
-    requires marks { Marks n (bit marked.old) (I.WaitingList.waits items.old) (I.WaitingList.room items.old) }
-    ensures marks { Marks n (bit marked.new) (I.WaitingList.waits items.new) (I.WaitingList.room items.new) }
+    requires marks { Marks n (bit marked.old) (I.waits items.old) (I.room items.old) }
+    ensures marks { Marks n (bit marked.new) (I.waits items.new) (I.room items.new) }
     ensures done { (x : ℕ) → x < n → T (bit marked.new x) }
-    ensures capacity { I.WaitingList.room items.new ≡ I.WaitingList.room items.old }
+    ensures capacity { I.room items.new ≡ I.room items.old }
 {
     for i in 0..n {
         mark(n, marked, items, i);

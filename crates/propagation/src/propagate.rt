@@ -7,65 +7,59 @@ ghost use Rattle.levels.specs.Sets.{words};
 ghost use Rattle.levels.specs.Size.{size};
 ghost use Rattle.levels.specs.Counted.{Counted, CountsFixed};
 ghost use Rattle.propagation.specs.State.{Invariant, Narrowed, Past, There, work};
-ghost use Rattle.propagation.specs.Supports.{Supports};
 
-use crate::counts::{clear_rest, fill_counts};
+use crate::counts::clear_rest;
 use crate::domains::Domains;
 use crate::marks::mark_all;
-use crate::revise::revise;
-use crate::spread::spread_all;
+use crate::screening::Screening;
 use crate::supports::fill_supports;
 use books::rule::RuleBook;
 use lists::choice::Choice;
 use lists::waiting::WaitingList;
 
-// Revises item i, which was taken from the list, and spreads what that crosses out.
-fn step<B: RuleBook, O: WaitingList<Choice>, I: WaitingList<u8>>(
-    book: &B,
-    c: u8,
-    rows: &[u32; 32768],
-    domains: &mut Domains,
-    counts: &mut [u8],
-    options: &mut O,
-    items: &mut I,
-    i: usize,
-)
-    requires known { Supports (B.RuleBook.meaning book.now) rows.now }
-    requires holds { Invariant c (B.RuleBook.meaning book.now) domains.old counts.old (O.WaitingList.waits options.old) (O.WaitingList.room options.old) (add i (I.WaitingList.waits items.old)) (I.WaitingList.room items.old) }
-    ensures holds { Invariant c (B.RuleBook.meaning book.now) domains.new counts.new (O.WaitingList.waits options.new) (O.WaitingList.room options.new) (I.WaitingList.waits items.new) (I.WaitingList.room items.new) }
-    ensures empty { O.WaitingList.waits options.new ≡ none }
-    ensures narrowed { Narrowed c (B.RuleBook.meaning book.now) domains.old domains.new }
-    ensures less { work (B.RuleBook.meaning book.now) domains.new (I.WaitingList.waits items.new) ≤ work (B.RuleBook.meaning book.now) domains.old (I.WaitingList.waits items.old) }
-    ensures options { O.WaitingList.room options.new ≡ O.WaitingList.room options.old }
-    ensures items { I.WaitingList.room items.new ≡ I.WaitingList.room items.old }
-    ensures past { Past (B.RuleBook.meaning book.now) counts.old counts.new }
-{
-    revise(book, c, rows, domains, counts, options, i);
-    spread_all(book, c, rows, domains, counts, options, items);
-}
+impl<B: RuleBook> Screening<'_, B> {
+    // Revises item i, which was taken from the list, and spreads what that crosses out.
+    fn step<O: WaitingList<Choice>, I: WaitingList<u8>>(
+        &self,
+        domains: &mut Domains,
+        counts: &mut [u8],
+        options: &mut O,
+        items: &mut I,
+        i: usize,
+    )
+        requires holds { Invariant self.now.c (B.meaning self.now.book.now) domains.old counts.old (O.waits options.old) (O.room options.old) (add i (I.waits items.old)) (I.room items.old) }
+        ensures holds { Invariant self.now.c (B.meaning self.now.book.now) domains.new counts.new (O.waits options.new) (O.room options.new) (I.waits items.new) (I.room items.new) }
+        ensures empty { O.waits options.new ≡ none }
+        ensures narrowed { Narrowed self.now.c (B.meaning self.now.book.now) domains.old domains.new }
+        ensures less { work (B.meaning self.now.book.now) domains.new (I.waits items.new) ≤ work (B.meaning self.now.book.now) domains.old (I.waits items.old) }
+        ensures options { O.room options.new ≡ O.room options.old }
+        ensures items { I.room items.new ≡ I.room items.old }
+        ensures past { Past (B.meaning self.now.book.now) counts.old counts.new }
+    {
+        self.revise(domains, counts, options, i);
+        self.spread_all(domains, counts, options, items);
+    }
 
-// Revises items until none waits.
-fn settle<B: RuleBook, O: WaitingList<Choice>, I: WaitingList<u8>>(
-    book: &B,
-    c: u8,
-    rows: &[u32; 32768],
-    domains: &mut Domains,
-    counts: &mut [u8],
-    options: &mut O,
-    items: &mut I,
-)
-    requires known { Supports (B.RuleBook.meaning book.now) rows.now }
-    requires holds { Invariant c (B.RuleBook.meaning book.now) domains.old counts.old (O.WaitingList.waits options.old) (O.WaitingList.room options.old) (I.WaitingList.waits items.old) (I.WaitingList.room items.old) }
-    requires empty { O.WaitingList.waits options.old ≡ none }
-    ensures holds { Invariant c (B.RuleBook.meaning book.now) domains.new counts.new none (O.WaitingList.room options.new) none (I.WaitingList.room items.new) }
-    ensures empty { (O.WaitingList.waits options.new ≡ none) × (I.WaitingList.waits items.new ≡ none) }
-    ensures narrowed { Narrowed c (B.RuleBook.meaning book.now) domains.old domains.new }
-    ensures options { O.WaitingList.room options.new ≡ O.WaitingList.room options.old }
-    ensures items { I.WaitingList.room items.new ≡ I.WaitingList.room items.old }
-    ensures past { Past (B.RuleBook.meaning book.now) counts.old counts.new }
-{
-    while let Some(x) = items.take() {
-        step(book, c, rows, domains, counts, options, items, x as usize);
+    // Revises items until none waits.
+    fn settle<O: WaitingList<Choice>, I: WaitingList<u8>>(
+        &self,
+        domains: &mut Domains,
+        counts: &mut [u8],
+        options: &mut O,
+        items: &mut I,
+    )
+        requires holds { Invariant self.now.c (B.meaning self.now.book.now) domains.old counts.old (O.waits options.old) (O.room options.old) (I.waits items.old) (I.room items.old) }
+        requires empty { O.waits options.old ≡ none }
+        ensures holds { Invariant self.now.c (B.meaning self.now.book.now) domains.new counts.new none (O.room options.new) none (I.room items.new) }
+        ensures empty { (O.waits options.new ≡ none) × (I.waits items.new ≡ none) }
+        ensures narrowed { Narrowed self.now.c (B.meaning self.now.book.now) domains.old domains.new }
+        ensures options { O.room options.new ≡ O.room options.old }
+        ensures items { I.room items.new ≡ I.room items.old }
+        ensures past { Past (B.meaning self.now.book.now) counts.old counts.new }
+    {
+        while let Some(x) = items.take() {
+            self.step(domains, counts, options, items, usize::from(x));
+        }
     }
 }
 
@@ -100,9 +94,14 @@ pub fn propagate<B: RuleBook, O: WaitingList<Choice>, I: WaitingList<u8>>(
     // The words of items that are not linked stay full, so that they fail no test for a witness.
     let mut rows = [u32::MAX; 32768];
     fill_supports(book, &mut rows);
-    fill_counts(book, &rows, &state.kept, counts);
+    let screening = Screening {
+        book,
+        rows: &rows,
+        c,
+    };
+    screening.fill_counts(&state.kept, counts);
     mark_all(book.items(), &mut state.marked, items);
-    settle(book, c, &rows, &mut state, counts, options, items);
+    screening.settle(&mut state, counts, options, items);
     clear_rest(book, &state.kept, counts);
     *domains = state.kept;
 }

@@ -11,11 +11,11 @@ use books::rule::RuleBook;
 
 // Whether a of i and w of k stand together. The book is asked where i < k, and the table knows the answer where k < i.
 fn stand<B: RuleBook>(book: &B, rows: &[u32; 32768], i: usize, a: usize, k: usize, w: usize) -> bool
-    requires option { (i < (B.RuleBook.meaning book.now).items) × (a < 32) }
-    requires linked { Linked (B.RuleBook.meaning book.now) i k }
-    requires there { w < (B.RuleBook.meaning book.now).options k }
-    requires known { SupportsBelow (B.RuleBook.meaning book.now) (place i a k) rows.now }
-    ensures { result ≡ (B.RuleBook.meaning book.now).together i a k w }
+    requires option { (i < (B.meaning book.now).items) × (a < 32) }
+    requires linked { Linked (B.meaning book.now) i k }
+    requires there { w < (B.meaning book.now).options k }
+    requires known { SupportsBelow (B.meaning book.now) (place i a k) rows.now }
+    ensures { result ≡ (B.meaning book.now).together i a k w }
 {
     if k < i {
         has_bit(rows[1024 * k + 32 * w + i], a)
@@ -26,10 +26,10 @@ fn stand<B: RuleBook>(book: &B, rows: &[u32; 32768], i: usize, a: usize, k: usiz
 
 // The options of k that stand with a of i.
 fn support_word<B: RuleBook>(book: &B, rows: &[u32; 32768], i: usize, a: usize, k: usize) -> u32
-    requires option { (i < (B.RuleBook.meaning book.now).items) × (a < 32) }
-    requires linked { Linked (B.RuleBook.meaning book.now) i k }
-    requires known { SupportsBelow (B.RuleBook.meaning book.now) (place i a k) rows.now }
-    ensures { (w : ℕ) → bit result w ≡ (B.RuleBook.meaning book.now).together i a k w }
+    requires option { (i < (B.meaning book.now).items) × (a < 32) }
+    requires linked { Linked (B.meaning book.now) i k }
+    requires known { SupportsBelow (B.meaning book.now) (place i a k) rows.now }
+    ensures { (w : ℕ) → bit result w ≡ (B.meaning book.now).together i a k w }
 {
     let mut word = 0u32;
     for w in 0..book.options(k) {
@@ -40,12 +40,11 @@ fn support_word<B: RuleBook>(book: &B, rows: &[u32; 32768], i: usize, a: usize, 
 
 // Fills the table for all items of the book.
 pub fn fill_supports<B: RuleBook>(book: &B, rows: &mut [u32; 32768])
-    ensures { Supports (B.RuleBook.meaning book.now) rows.new }
+    ensures { Supports (B.meaning book.now) rows.new }
 {
     for n in 0..1024 * book.items() {
         if book.linked(n / 1024, n % 32) {
-            let word = support_word(book, rows, n / 1024, n / 32 % 32, n % 32);
-            rows[n] = word;
+            rows[n] = support_word(book, rows, n / 1024, n / 32 % 32, n % 32);
         }
     }
 }

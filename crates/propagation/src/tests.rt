@@ -1,102 +1,95 @@
 // Whether an option meets the count c in a set. Every test reads the table, so the book is asked only for links.
-ghost use Rattle.std.specs.Prelude.{◌≡◌, ℕ, ◌*◌, ◌<◌, ◌≤◌, ◌&&◌, T, ◌↔◌, length};
+ghost use Rattle.std.specs.Prelude.{◌≡◌, ℕ, ◌*◌, ◌<◌, ◌≤◌, ◌&&◌, length};
 ghost use Rattle.bits.specs.Below.{every, some};
 ghost use Rattle.bits.specs.Bits.{bit};
 ghost use Rattle.levels.specs.Counts.{partners};
 ghost use Rattle.levels.specs.Levels.{Linked};
 ghost use Rattle.levels.specs.Sets.{words};
-ghost use Rattle.levels.specs.Tests.{meets_test, path_test, third_test, witnessed_test};
+ghost use Rattle.levels.specs.Tests.{meets_test, on_linked_test, path_test, witnessed_test};
 ghost use Rattle.levels.specs.Counted.{byte};
-ghost use Rattle.propagation.specs.Supports.{Supports};
 
+use crate::screening::Screening;
 use bits::bit::has_bit;
 use books::rule::RuleBook;
+use checking::conditions::is_third;
 
 // Whether three words share a bit.
 fn common(x: u32, y: u32, z: u32) -> bool
-    ensures { T result ↔ ((w : ℕ) × T (bit z w && (bit x w && bit y w))) }
+    ensures { result ≡ some 32 (λ b. bit z b && (bit x b && bit y b)) }
 {
     x & y & z != 0
 }
 
-// Whether k is a third item, linked with both i and j.
-fn is_third<B: RuleBook>(book: &B, i: usize, j: usize, k: usize) -> bool
-    ensures { result ≡ third_test (B.RuleBook.meaning book.now) i j k }
-{
-    k != i && k != j && book.linked(i, k) && book.linked(j, k)
-}
-
-// Whether a of i and b of j have a witness in the set on every third item.
-fn is_witnessed<B: RuleBook>(
-    book: &B,
-    rows: &[u32; 32768],
-    set: &[u32; 32],
-    i: usize,
-    a: usize,
-    j: usize,
-    b: usize,
-) -> bool
-    requires known { Supports (B.RuleBook.meaning book.now) rows.now }
-    requires first { (i < (B.RuleBook.meaning book.now).items) × (a < 32) }
-    requires second { (j < (B.RuleBook.meaning book.now).items) × (b < 32) }
-    ensures { result ≡ every (B.RuleBook.meaning book.now).items (witnessed_test (B.RuleBook.meaning book.now) (words set.now) i a j b) }
-{
-    for k in 0..book.items() {
-        let of_a = rows[1024 * i + 32 * a + k];
-        let of_b = rows[1024 * j + 32 * b + k];
-        if !common(of_a, of_b, set[k]) && is_third(book, i, j, k) {
-            return false;
-        }
+impl<B: RuleBook> Screening<'_, B> {
+    // Whether a of i and b of j have a witness in the set on k, where k is a third item.
+    fn is_witnessed_on(
+        &self,
+        set: &[u32; 32],
+        i: usize,
+        a: usize,
+        j: usize,
+        b: usize,
+        k: usize,
+    ) -> bool
+        requires first { (i < (B.meaning self.now.book.now).items) × (a < 32) }
+        requires second { (j < (B.meaning self.now.book.now).items) × (b < 32) }
+        requires third { k < (B.meaning self.now.book.now).items }
+        ensures { result ≡ witnessed_test (B.meaning self.now.book.now) (words set.now) i a j b k }
+    {
+        let of_a = self.rows[1024 * i + 32 * a + k];
+        let of_b = self.rows[1024 * j + 32 * b + k];
+        common(of_a, of_b, set[k]) || !is_third(self.book, i, j, k)
     }
-    true
-}
 
-// Whether a of i has a path partner on j.
-fn has_path<B: RuleBook>(
-    book: &B,
-    rows: &[u32; 32768],
-    set: &[u32; 32],
-    i: usize,
-    a: usize,
-    j: usize,
-) -> bool
-    requires known { Supports (B.RuleBook.meaning book.now) rows.now }
-    requires option { (i < (B.RuleBook.meaning book.now).items) × (a < 32) }
-    requires linked { Linked (B.RuleBook.meaning book.now) i j }
-    ensures { result ≡ some ((B.RuleBook.meaning book.now).options j) (path_test (B.RuleBook.meaning book.now) (words set.now) i a j) }
-{
-    let word = rows[1024 * i + 32 * a + j] & set[j];
-    for b in 0..book.options(j) {
-        if has_bit(word, b) && is_witnessed(book, rows, set, i, a, j, b) {
-            return true;
-        }
+    // Whether a of i and b of j have a witness in the set on every third item.
+    fn is_witnessed(&self, set: &[u32; 32], i: usize, a: usize, j: usize, b: usize) -> bool
+        requires first { (i < (B.meaning self.now.book.now).items) × (a < 32) }
+        requires second { (j < (B.meaning self.now.book.now).items) × (b < 32) }
+        ensures { result ≡ every (B.meaning self.now.book.now).items (witnessed_test (B.meaning self.now.book.now) (words set.now) i a j b) }
+    {
+        (0..self.book.items()).all(|k| self.is_witnessed_on(set, i, a, j, b, k))
     }
-    false
-}
 
-// Whether a of i meets the count c in the set, where its support counts are those in the set.
-pub fn meets<B: RuleBook>(
-    book: &B,
-    c: u8,
-    rows: &[u32; 32768],
-    set: &[u32; 32],
-    counts: &[u8],
-    i: usize,
-    a: usize,
-) -> bool
-    requires long { 1024 * (B.RuleBook.meaning book.now).items ≤ length counts.now }
-    requires known { Supports (B.RuleBook.meaning book.now) rows.now }
-    requires option { (i < (B.RuleBook.meaning book.now).items) × (a < 32) }
-    requires support { (j : ℕ) → Linked (B.RuleBook.meaning book.now) i j → byte counts.now i a j ≡ partners (B.RuleBook.meaning book.now) (words set.now) i a j }
-    ensures { result ≡ meets_test c (B.RuleBook.meaning book.now) (words set.now) i a }
-{
-    for j in 0..book.items() {
-        if book.linked(i, j)
-            && counts[1024 * i + 32 * a + j] <= c
-            && !has_path(book, rows, set, i, a, j)
-        {
-            return false;
-        }
+    // Whether b is a path partner of a of i on the linked item j.
+    fn is_path_partner(&self, set: &[u32; 32], i: usize, a: usize, j: usize, b: usize) -> bool
+        requires option { (i < (B.meaning self.now.book.now).items) × (a < 32) }
+        requires linked { Linked (B.meaning self.now.book.now) i j }
+        requires there { b < (B.meaning self.now.book.now).options j }
+        ensures { result ≡ path_test (B.meaning self.now.book.now) (words set.now) i a j b }
+    {
+        let partners = self.rows[1024 * i + 32 * a + j] & set[j];
+        has_bit(partners, b) && self.is_witnessed(set, i, a, j, b)
     }
-    true
+
+    // Whether a of i has a path partner on the linked item j.
+    fn has_path(&self, set: &[u32; 32], i: usize, a: usize, j: usize) -> bool
+        requires option { (i < (B.meaning self.now.book.now).items) × (a < 32) }
+        requires linked { Linked (B.meaning self.now.book.now) i j }
+        ensures { result ≡ some ((B.meaning self.now.book.now).options j) (path_test (B.meaning self.now.book.now) (words set.now) i a j) }
+    {
+        (0..self.book.options(j)).any(|b| self.is_path_partner(set, i, a, j, b))
+    }
+
+    // Whether a of i meets the count c on j, where j is linked with i.
+    fn meets_on(&self, set: &[u32; 32], counts: &[u8], i: usize, a: usize, j: usize) -> bool
+        requires long { 1024 * (B.meaning self.now.book.now).items ≤ length counts.now }
+        requires option { (i < (B.meaning self.now.book.now).items) × (a < 32) }
+        requires there { j < (B.meaning self.now.book.now).items }
+        requires support { Linked (B.meaning self.now.book.now) i j → byte counts.now i a j ≡ partners (B.meaning self.now.book.now) (words set.now) i a j }
+        ensures { result ≡ on_linked_test self.now.c (B.meaning self.now.book.now) (words set.now) i a j }
+    {
+        !self.book.linked(i, j)
+            || counts[1024 * i + 32 * a + j] > self.c
+            || self.has_path(set, i, a, j)
+    }
+
+    // Whether a of i meets the count c in the set, where its support counts are those in the set.
+    pub fn meets(&self, set: &[u32; 32], counts: &[u8], i: usize, a: usize) -> bool
+        requires long { 1024 * (B.meaning self.now.book.now).items ≤ length counts.now }
+        requires option { (i < (B.meaning self.now.book.now).items) × (a < 32) }
+        requires support { (j : ℕ) → Linked (B.meaning self.now.book.now) i j → byte counts.now i a j ≡ partners (B.meaning self.now.book.now) (words set.now) i a j }
+        ensures { result ≡ meets_test self.now.c (B.meaning self.now.book.now) (words set.now) i a }
+    {
+        (0..self.book.items()).all(|j| self.meets_on(set, counts, i, a, j))
+    }
 }

@@ -3,28 +3,19 @@ ghost use Rattle.std.specs.Prelude.{◌≡◌, ℕ, ◌<◌, not, ◌&&◌, ◌|
 ghost use Rattle.bits.specs.Bits.{bit};
 ghost use Rattle.levels.specs.Sets.{words};
 
-use bits::bit::has_bit;
-
 // Sets bit k if `on`, without a branch.
 pub fn put_bit(word: u32, k: usize, on: bool) -> u32
     requires { k < 32 }
     ensures { (x : ℕ) → bit result x ≡ (bit word x || (on && k == x)) }
 {
-    word | ((on as u32) << (k as u32))
+    word | (u32::from(on) << k)
 }
 
 pub fn without_bit(word: u32, k: usize) -> u32
     requires { k < 32 }
     ensures { (x : ℕ) → bit result x ≡ (bit word x && not (k == x)) }
 {
-    word ^ (word & (1 << (k as u32)))
-}
-
-pub fn is_in(set: &[u32; 32], i: usize, a: usize) -> bool
-    requires { i < 32 }
-    ensures { result ≡ words set.now i a }
-{
-    has_bit(set[i], a)
+    word ^ (word & (1 << k))
 }
 
 // Takes option a of item i out of the set.

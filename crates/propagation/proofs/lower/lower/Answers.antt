@@ -1,19 +1,10 @@
-use Rattle.std.proofs.Common.{◌≡◌, ℕ, ◌<◌, ◌≤◌, Bool, ◌≢◌, length, sym, ◌∙◌, arith}
+use Rattle.std.proofs.Common.{ℕ, ◌<◌, Bool, length, sym, ◌∙◌, arith}
 use Rattle.bits.specs.Bits.{bit}
 use Rattle.bits.proofs.Tests.{of_true, of_false}
-use Rattle.levels.specs.Counted.{place, byte}
+use Rattle.levels.specs.Counted.{place}
 use Rattle.propagation.proofs.Bytes.{lowered_yes, lowered_no}
 use Rattle.propagation.proofs.lower.lower.Goals as goal
 use Rattle.propagation.proofs.lower.lower.Goals.{then-has_bit, else-has_bit}
-
-pub overflow_sub-counts : goal.overflow_sub-counts
-overflow_sub-counts c =
-    let i : ℕ = c.args.i in
-    let j : ℕ = c.args.j in
-    let a : ℕ = c.loop-a.a in
-    let same : byte c.loop-a.counts i a j ≡ byte c.args.counts.now i a j = c.loop-a.invariant.1 (place i a j) (λ x xl. let ne : place i a j ≢ place i x j = omega arith in ne) in
-    let one : 1 ≤ byte c.args.counts.now i a j = c.requires.one a (omega arith) (of_true (sym c.has_bit.ensures ∙ c.if-has_bit.true)) in
-    omega (arith, same, one)
 
 pub loop-a-preserved : goal.loop-a-preserved
 loop-a-preserved c =
@@ -27,8 +18,6 @@ loop-a-preserved c =
       | else-has_bit w ↦ lowered_no c.args.counts.now c.loop-a.counts c.if-has_bit.counts i j f a c.loop-a.invariant (of_false (sym c.has_bit.ensures ∙ w.if-has_bit.false)) w.counts-is
     ]
 
-pub returns : goal.returns
-returns c = record {
-  mine = λ a al. c.loop-a.invariant.0 a (omega (arith, c.loop-a-test.false, al));
-  others = λ k h. c.loop-a.invariant.1 k (λ x xl. h x (omega (arith, c.loop-a.auto.a-end, xl)));
-}
+pub returns-clause-others : goal.returns-clause-others
+returns-clause-others c =
+    λ k h. c.loop-a.invariant.1 k (λ x xl. h x (omega (arith, c.loop-a.auto.a-end, xl)))

@@ -13,4 +13,4 @@ put_at word k x kl false =
     ap (λ (z : ℕ). bit (bit_or word (z % 2 ^ 32)) x) (zero-mul (2 ^ k)) ∙ (bit_of_or word 0 x ∙ ap (λ (z : Bool). bit word x || z) (bit_none x))
 
 pub returns : goal.returns
-returns c x = put_at c.args.word c.args.k x c.requires c.args.on
+returns c x = rw c.from.ensures (put_at c.args.word c.args.k x c.requires c.args.on)

@@ -1,7 +1,0 @@
-use Rattle.levels.specs.Sets.{words}
-use Rattle.levels.specs.Counted.{count_at}
-use Rattle.propagation.proofs.Bytes.{Tabled}
-use Rattle.propagation.proofs.counts.fill_counts.Given as goal
-
-abbrev pub invariant-loop-n : goal.invariant-loop-n
-invariant-loop-n g l = Tabled l.initial.counts l.counts (count_at (g.B.RuleBook.meaning l.book) (words l.set)) l.n

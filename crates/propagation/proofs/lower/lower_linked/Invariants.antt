@@ -1,8 +1,0 @@
-use Rattle.std.proofs.Common.{◌&&◌}
-use Rattle.levels.specs.Sets.{words}
-use Rattle.propagation.proofs.Bytes.{LoweredAll}
-use Rattle.propagation.proofs.lower.lower_linked.Given as goal
-
-abbrev pub invariant-loop-i : goal.invariant-loop-i
-invariant-loop-i g l =
-    LoweredAll (g.B.RuleBook.meaning l.book) l.initial.counts l.counts l.j (λ i a. words l.live i a && (g.B.RuleBook.meaning l.book).together i a l.j l.b) l.i
