@@ -1,5 +1,6 @@
 -- The laws of sheets.
 use Rattle.std.proofs.Common.{◌≡◌, ℕ, zero, suc, ◌+◌, ◌-◌, ◌*◌, ◌^◌, ◌<◌, ◌≤◌, Bool, true, false, cond, not, ◌&&◌, eqb, ltb, leb, List, [], ◌∷◌, ◌++◌, map, length, get_or, take, is_ok, Ok, Err, decimal, Result, sym, refl, ap, ◌∙◌, subst, inl, inr, arith}
+use Rattle.std.specs.Result.{result_and}
 use Rattle.std.specs.List.{range_with_len, flat_map}
 use Rattle.std.proofs.lemmas.List.{length-append, take_all}
 use Rattle.std.proofs.lemmas.List.FromFn.{length-map-range_with_len}
@@ -12,10 +13,11 @@ use Rattle.meaning.specs.Refusals.{place_of}
 use Rattle.meaning.specs.declared.refusal.Refusal.{Refusal}
 use Rattle.meaning.specs.declared.refusal.Refusal.TheVariants.{Malformed, MemoryShort, OutOfLimits}
 use Rattle.sheets.specs.declared.draft.Draft.{Draft}
+use Rattle.sheets.specs.declared.draft.Opening.{Opening}
 use Rattle.sheets.specs.Fields.{cut, partners}
-use Rattle.sheets.specs.Texts.{Sheet, Same, ended, first, is_given, item_line, item_names, lines_of, opening_line, opening_names, pair_line, pair_lines, pair_names, is_right, second, sheet_of, sheet_of_parts, text_of, ◌·◌}
-use Rattle.sheets.specs.Reading.{closing, follow, reading, start, then_lines, is_whole}
-use Rattle.sheets.specs.Writing.{fitting, then_text, writing}
+use Rattle.sheets.specs.Texts.{all_pair_lines, item_lines, Sheet, Same, ended, first, is_given, item_line, item_names, lines_of, opening_line, opening_names, pair_line, pair_lines, pair_names, is_right, second, sheet_of, sheet_of_parts, text_of, ◌·◌}
+use Rattle.sheets.specs.Reading.{closing, follow, reading, start, is_whole, ◌>>=◌}
+use Rattle.sheets.specs.Writing.{fitting, writing}
 use Rattle.sheets.specs.Law.{Checked, Faults, OnlyOne, ReadsBack, WrittenBack}
 use Rattle.sheets.proofs.Accepted.{only_texts, right_now, sound_lines}
 use Rattle.sheets.proofs.Agree.{given_yet}
@@ -25,7 +27,7 @@ use Rattle.sheets.proofs.Faulty.{closing_line, go_on, then_err, wrong_line}
 use Rattle.sheets.proofs.Joins.{join_same}
 use Rattle.sheets.proofs.Partners.{map_same, partners_free}
 use Rattle.sheets.proofs.Right as right
-use Rattle.sheets.proofs.Steps.{follow_append}
+use Rattle.sheets.proofs.Steps.{after_lines}
 
 -- no line has an end inside
 comma_free : (x y : List ℕ) → Free 10 x → Free 10 y → Free 10 (x · y)
@@ -69,12 +71,12 @@ module _ (s : Sheet) (ok : is_right s ≡ true) where
   within_small : (x : ℕ) → within x 9999 ≡ true → x < 10000
   within_small x w = omega (arith, leb-true x 9999 (and_parts (leb 1 x) (leb x 9999) w).1)
 
-  opening_free : Free 10 (opening_line s)
+  opening_free : Free 10 (opening_line s.opening)
   opening_free =
-      comma_free (decimal s.asked) (decimal s.edition · decimal s.items) (small_free s.asked (within_small s.asked (right.asked_in s ok)))
-      (comma_free (decimal s.edition) (decimal s.items) (small_free s.edition (within_small s.edition (right.edition_in s ok))) (small_free s.items (omega (arith, right.items_most s ok))))
+      comma_free (decimal s.opening.asked) (decimal s.opening.edition · decimal s.opening.items) (small_free s.opening.asked (within_small s.opening.asked (right.asked_in s ok)))
+      (comma_free (decimal s.opening.edition) (decimal s.opening.items) (small_free s.opening.edition (within_small s.opening.edition (right.edition_in s ok))) (small_free s.opening.items (omega (arith, right.items_most s ok))))
 
-  item_free : (i : ℕ) → i < s.items → Free 10 (item_line s i)
+  item_free : (i : ℕ) → i < s.opening.items → Free 10 (item_line s i)
   item_free i l = comma_free (decimal i) (decimal (get_or s.counts i 0)) (small_free i (omega (arith, right.items_most s ok))) (small_free (get_or s.counts i 0) (omega (arith, right.count_most s ok i l)))
 
   pair_free : (q a : ℕ) → q < 1024 → a < 32 → Free 10 (pair_line s q a)
@@ -84,11 +86,11 @@ module _ (s : Sheet) (ok : is_right s ≡ true) where
       (comma_free (decimal (second q)) _ (small_free (second q) (omega arith))
       (comma_free (decimal a) _ (small_free a (omega arith)) (partners_free 10 (get_or s.counts (second q) 0) (get_or s.rows (place (first q) a (second q)) 0) (omega arith))))
 
-  first_in : (q : ℕ) → is_given s q ≡ true → first q < s.items
+  first_in : (q : ℕ) → is_given s q ≡ true → first q < s.opening.items
   first_in q e =
-      let p = (and_parts (ltb (first q) (second q) && ltb (second q) s.items) (link_bit s.links (first q) (second q)) e).0 in
-      let r = and_parts (ltb (first q) (second q)) (ltb (second q) s.items) p in
-      omega (arith, ltb-true (first q) (second q) r.0, ltb-true (second q) s.items r.1)
+      let p = (and_parts (ltb (first q) (second q) && ltb (second q) s.opening.items) (link_bit s.links (first q) (second q)) e).0 in
+      let r = and_parts (ltb (first q) (second q)) (ltb (second q) s.opening.items) p in
+      omega (arith, ltb-true (first q) (second q) r.0, ltb-true (second q) s.opening.items r.1)
 
   pairs_free : (q : ℕ) → q < 1024 → AllFree 10 (pair_lines s q)
   pairs_free q l =
@@ -106,8 +108,8 @@ module _ (s : Sheet) (ok : is_right s ≡ true) where
       opening_free,
       (
         item_names_free,
-        all_free_append 10 (map (item_line s) (range_with_len 0 s.items)) (pair_names ∷ flat_map (pair_lines s) (range_with_len 0 1024))
-            (map_free (item_line s) 0 s.items (λ i l k. item_free i (omega arith)))
+        all_free_append 10 (item_lines s) (pair_names ∷ all_pair_lines s)
+            (map_free (item_line s) 0 s.opening.items (λ i l k. item_free i (omega arith)))
             (pair_names_free, join_free (pair_lines s) 0 1024 (λ q l. pairs_free q (omega arith))),
       ),
     ),
@@ -116,10 +118,10 @@ module _ (s : Sheet) (ok : is_right s ≡ true) where
   lines_cut : cut (text_of s) ≡ (lines_of s, [])
   lines_cut = cut_ended (lines_of s) lines_free
 
-  long_enough : 4 + s.items < 1 + length (lines_of s)
+  long_enough : 4 + s.opening.items < 1 + length (lines_of s)
   long_enough =
-      let e = length-append (map (item_line s) (range_with_len 0 s.items)) (pair_names ∷ flat_map (pair_lines s) (range_with_len 0 1024)) in
-      let f = length-map-range_with_len (item_line s) 0 s.items in
+      let e = length-append (item_lines s) (pair_names ∷ all_pair_lines s) in
+      let f = length-map-range_with_len (item_line s) 0 s.opening.items in
       omega (arith, e, f)
 
   reached : Draft
@@ -135,23 +137,23 @@ module _ (s : Sheet) (ok : is_right s ≡ true) where
       let c = (whole_text s ok).0 in
       let b = (whole_text s ok).2 in
       let w : is_whole (whole_text s ok).0 (1 + length (lines_of s)) [] ≡ true =
-      and_from (ltb (4 + (whole_text s ok).0.items) (1 + length (lines_of s))) (eqb (whole_text s ok).0.option 0)
-      (lt-ltb (4 + (whole_text s ok).0.items) (1 + length (lines_of s)) (subst (λ (n : ℕ). 4 + n < 1 + length (lines_of s)) b.agree.items long_enough)) (eq-eqb (whole_text s ok).0.option 0 b.none) in
-      ap (λ (x : List (List ℕ) × List ℕ). then_lines (follow start 1 x.0) (closing (1 + length x.0) x.1)) lines_cut
-      ∙ ap (λ (x : Result Draft Refusal). then_lines x (closing (1 + length (lines_of s)) [])) (whole_text s ok).1
+      and_from (ltb (4 + (whole_text s ok).0.opening.items) (1 + length (lines_of s))) (eqb (whole_text s ok).0.due.option 0)
+      (lt-ltb (4 + (whole_text s ok).0.opening.items) (1 + length (lines_of s)) (subst (λ (o : Opening). 4 + o.items < 1 + length (lines_of s)) b.agree.opening long_enough)) (eq-eqb (whole_text s ok).0.due.option 0 b.none) in
+      ap (λ (x : List (List ℕ) × List ℕ). follow start 1 x.0 >>= closing (1 + length x.0) x.1) lines_cut
+      ∙ ap (λ (x : Result Draft Refusal). x >>= closing (1 + length (lines_of s)) []) (whole_text s ok).1
       ∙ cond-true (is_whole (whole_text s ok).0 (1 + length (lines_of s)) []) (Ok (whole_text s ok).0) (Err (Malformed (1 + length (lines_of s)))) w
 
   right_reached : is_right (sheet_of reached) ≡ true
   right_reached = right_now reached agrees.agree.drafted
 
-  link_same : (i j : ℕ) → i < j → j < s.items → link_bit s.links i j ≡ link_bit reached.links i j
+  link_same : (i j : ℕ) → i < j → j < s.opening.items → link_bit s.links i j ≡ link_bit reached.links i j
   link_same i j l k = sym (agrees.agree.links i j l k ∙ (let m = right.items_most s ok in let t : given_yet 1024 0 (32 * i + j) 0 ≡ true = grind (arith, nat_tests) in grind (arith, nat_tests)))
 
-  word_same : (i : ℕ) → i < s.items → get_or s.links i 0 ≡ get_or reached.links i 0
+  word_same : (i : ℕ) → i < s.opening.items → get_or s.links i 0 ≡ get_or reached.links i 0
   word_same i l =
-      let n : s.items ≡ reached.items = agrees.agree.items in
-      let l' : i < reached.items = omega arith in
-      right.same_word s.items (get_or s.links i 0) (get_or reached.links i 0) (right.word_in s ok i l)
+      let n = ap (λ (o : Opening). o.items) agrees.agree.opening in
+      let l' : i < reached.opening.items = omega arith in
+      right.same_word s.opening.items (get_or s.links i 0) (get_or reached.links i 0) (right.word_in s ok i l)
       (subst (λ (k : ℕ). get_or reached.links i 0 < 2 ^ k) (sym n) (right.word_in (sheet_of reached) right_reached i l'))
       (λ k m. elim (cases_order i k) [
         | inl e ↦
@@ -165,9 +167,7 @@ module _ (s : Sheet) (ok : is_right s ≡ true) where
 
   reads_same : Same s (sheet_of reached)
   reads_same = record {
-    asked = agrees.agree.asked;
-    edition = agrees.agree.edition;
-    items = agrees.agree.items;
+    opening = agrees.agree.opening;
     counts = agrees.agree.counts;
     links = word_same;
     rows = λ i a j l k m. sym (agrees.agree.rows i a j l k m ∙ cond-true (given_yet 1024 0 (32 * i + j) a) (get_or s.rows (place i a j) 0) 0 (let o = right.items_most s ok in grind (arith, nat_tests)));
@@ -180,14 +180,14 @@ reads_back s ok = (reached s ok, read_so s ok, reads_same s ok)
 module _ (s t : Sheet) (ok : is_right s ≡ true) (e : Same s t) where
   given_same : (q : ℕ) → is_given s q ≡ is_given t q
   given_same q =
-      let n = e.items in
-      elim (cases_Bool (ltb (first q) (second q) && ltb (second q) s.items)) [
+      let n : s.opening.items ≡ t.opening.items = ap (λ (o : Opening). o.items) e.opening in
+      elim (cases_Bool (ltb (first q) (second q) && ltb (second q) s.opening.items)) [
         | inl yes' ↦
-            let r = and_parts (ltb (first q) (second q)) (ltb (second q) s.items) yes' in
-            let i_in : first q < s.items = omega (arith, ltb-true (first q) (second q) r.0, ltb-true (second q) s.items r.1) in
+            let r = and_parts (ltb (first q) (second q)) (ltb (second q) s.opening.items) yes' in
+            let i_in : first q < s.opening.items = omega (arith, ltb-true (first q) (second q) r.0, ltb-true (second q) s.opening.items r.1) in
             λ v. (ltb (first q) (second q) && ltb (second q) (n v)) && bit (e.links (first q) i_in v) (second q)
         | inr not' ↦
-            let m : (ltb (first q) (second q) && ltb (second q) t.items) ≡ false = ap (λ (x : ℕ). ltb (first q) (second q) && ltb (second q) x) (sym n) ∙ not' in
+            let m : (ltb (first q) (second q) && ltb (second q) t.opening.items) ≡ false = ap (λ (x : ℕ). ltb (first q) (second q) && ltb (second q) x) (sym n) ∙ not' in
             grind (arith, nat_tests)
       ]
 
@@ -195,11 +195,11 @@ module _ (s t : Sheet) (ok : is_right s ≡ true) (e : Same s t) where
   pairs_same q short =
       elim (cases_Bool (is_given s q)) [
         | inl yes' ↦
-            let p = (and_parts (ltb (first q) (second q) && ltb (second q) s.items) (link_bit s.links (first q) (second q)) yes').0 in
-            let r = and_parts (ltb (first q) (second q)) (ltb (second q) s.items) p in
+            let p = (and_parts (ltb (first q) (second q) && ltb (second q) s.opening.items) (link_bit s.links (first q) (second q)) yes').0 in
+            let r = and_parts (ltb (first q) (second q)) (ltb (second q) s.opening.items) p in
             let low = ltb-true (first q) (second q) r.0 in
-            let j_in = ltb-true (second q) s.items r.1 in
-            let i_in : first q < s.items = omega (arith, low, j_in) in
+            let j_in = ltb-true (second q) s.opening.items r.1 in
+            let i_in : first q < s.opening.items = omega (arith, low, j_in) in
             cond-true (is_given s q) (map (pair_line s q) (range_with_len 0 (get_or s.counts (first q) 0))) [] yes'
             ∙ map_same (pair_line s q) (pair_line t q) 0 (get_or s.counts (first q) 0)
             (λ a l k. λ v. decimal (first q) · (decimal (second q) · (decimal a · partners (e.counts (second q) j_in v) (e.rows (first q) a (second q) low j_in (omega (arith, right.count_most s ok (first q) i_in)) v))))
@@ -210,15 +210,15 @@ module _ (s t : Sheet) (ok : is_right s ≡ true) (e : Same s t) where
             ∙ sym (cond-false (is_given t q) (map (pair_line t q) (range_with_len 0 (get_or t.counts (first q) 0))) [] (sym (given_same q) ∙ not'))
       ]
 
-  items_same : map (item_line s) (range_with_len 0 s.items) ≡ map (item_line t) (range_with_len 0 t.items)
+  items_same : item_lines s ≡ map (item_line t) (range_with_len 0 t.opening.items)
   items_same =
-      map_same (item_line s) (item_line t) 0 s.items (λ i l k. ap (λ (c : ℕ). decimal i · decimal c) (e.counts i (omega arith)))
-      ∙ ap (λ (n : ℕ). map (item_line t) (range_with_len 0 n)) e.items
+      map_same (item_line s) (item_line t) 0 s.opening.items (λ i l k. ap (λ (c : ℕ). decimal i · decimal c) (e.counts i (omega arith)))
+      ∙ ap (λ (o : Opening). map (item_line t) (range_with_len 0 o.items)) e.opening
 
   pub text_same : text_of s ≡ text_of t
   text_same =
       ap (flat_map ended)
-      (λ v. opening_names ∷ (decimal (e.asked v) · (decimal (e.edition v) · decimal (e.items v))) ∷ item_names
+      (λ v. opening_names ∷ opening_line (e.opening v) ∷ item_names
       ∷ (items_same v ++ (pair_names ∷ join_same (pair_lines s) (pair_lines t) 0 1024 (λ q l. pairs_same q (omega arith)) v)))
 
 pub only_one : OnlyOne
@@ -232,9 +232,8 @@ begins : (ls : List (List ℕ)) (c : Draft) → follow start 1 ls ≡ Ok c → (
 begins ls c f =
     let v = go_on ls c f in
     let g : follow start 1 (ls ++ v.more) ≡ Ok v.last =
-    follow_append start 1 ls v.more ∙ ap (λ (r : Result Draft Refusal). then_lines r (λ d. follow d (1 + length ls) v.more)) f ∙ v.goes in
-    let w = lt-ltb (4 + v.last.items) (1 + length (ls ++ v.more)) (omega (arith, v.long, length-append ls v.more)) in
-    let r = sound_lines (ls ++ v.more) v.last g w v.whole in
+    after_lines start 1 ls v.more (Ok c) f ∙ v.goes in
+    let r = sound_lines (ls ++ v.more) v.last g (omega (arith, v.long, length-append ls v.more)) v.whole in
     (sheet_of v.last, v.more, right_now v.last r.drafted, sym r.text)
 
 pub faults : Faults
@@ -252,10 +251,8 @@ faults b e h =
                 let q = whole_text s ok in
                 let t' : lines_of s ≡ take (suc w.place) (cut b).0 ++ rest = t ∙ ap (λ (k : ℕ). take k (cut b).0 ++ rest) here_line in
                 let bad : follow start 1 (lines_of s) ≡ Err e =
-                ap (follow start 1) t' ∙ follow_append start 1 (take (suc w.place) (cut b).0) rest
-                ∙ ap (λ (r : Result Draft Refusal). then_lines r (λ d. follow d (1 + length (take (suc w.place) (cut b).0)) rest)) w.fault in
-                let clash : ◌≡◌ {A = Result Draft Refusal} (Ok q.0) (Err e) = sym q.1 ∙ bad in
-                let z : ◌≡◌ {A = ℕ} 0 1 = cc in omega arith;
+                ap (follow start 1) t' ∙ after_lines start 1 (take (suc w.place) (cut b).0) rest (Err e) w.fault in
+                cc (q.1, bad);
           }
       | inr f ↦
           let here_line = closing_line (1 + length (cut b).0) (cut b).1 f.0 e f.2 in
@@ -281,9 +278,9 @@ pub checked : Checked
 checked asked p =
     check_ways (within asked 9999) (limits_right p.edition p.items) (sizes_right p.items p.counts.now p.links.now p.rows.now) (contents_right p.items p.counts.now p.links.now p.rows.now)
 
-text_some : (r : Result (Unit {0}) Refusal) (b : Bool) (t u : List ℕ) (room : ℕ) → then_text r (cond b (fitting t room) (Err (OutOfLimits 0))) ≡ Ok u → (is_ok r ≡ true) × (b ≡ true) × (leb (length t) 65536 ≡ true) × (t ≡ u)
-text_some (Err e) b t u room h = let z : ◌≡◌ {A = ℕ} 0 1 = cc in absurd (omega arith)
-text_some (Ok x) false t u room h = let z : ◌≡◌ {A = ℕ} 0 1 = cc in absurd (omega arith)
+text_some : (r : Result (Unit {0}) Refusal) (b : Bool) (t u : List ℕ) (room : ℕ) → result_and r (cond b (fitting t room) (Err (OutOfLimits 0))) ≡ Ok u → (is_ok r ≡ true) × (b ≡ true) × (leb (length t) 65536 ≡ true) × (t ≡ u)
+text_some (Err e) b t u room h = absurd cc
+text_some (Ok x) false t u room h = absurd cc
 text_some (Ok x) true t u room h =
     elim (cases_Bool (leb (length t) 65536 && leb (length t) room)) [
       | inl yes' ↦
@@ -291,7 +288,7 @@ text_some (Ok x) true t u room h =
           (refl, refl, (and_parts (leb (length t) 65536) (leb (length t) room) yes').0, cc)
       | inr not' ↦
           let f : ◌≡◌ {A = Result (List ℕ) Refusal} (Err MemoryShort) (Ok u) = sym (cond-false (leb (length t) 65536 && leb (length t) room) (Ok t) (Err MemoryShort) not') ∙ h in
-          let z : ◌≡◌ {A = ℕ} 0 1 = cc in absurd (omega arith)
+          absurd cc
     ]
 
 pub written_back : WrittenBack

@@ -28,22 +28,22 @@ same_word (suc n) x y h l e =
 
 module _ (s : Sheet) (ok : is_right s ≡ true) where
   abbrev n : ℕ
-  n = s.items
+  n = s.opening.items
 
-  outer : (within s.asked 9999 && limits_right s.edition n ≡ true) × (sizes_right n s.counts s.links s.rows && contents_right n s.counts s.links s.rows ≡ true)
-  outer = and_parts (within s.asked 9999 && limits_right s.edition n) (sizes_right n s.counts s.links s.rows && contents_right n s.counts s.links s.rows) ok
+  outer : (within s.opening.asked 9999 && limits_right s.opening.edition n ≡ true) × (sizes_right n s.counts s.links s.rows && contents_right n s.counts s.links s.rows ≡ true)
+  outer = and_parts (within s.opening.asked 9999 && limits_right s.opening.edition n) (sizes_right n s.counts s.links s.rows && contents_right n s.counts s.links s.rows) ok
 
-  pub asked_in : within s.asked 9999 ≡ true
-  asked_in = (and_parts (within s.asked 9999) (limits_right s.edition n) outer.0).0
+  pub asked_in : within s.opening.asked 9999 ≡ true
+  asked_in = (and_parts (within s.opening.asked 9999) (limits_right s.opening.edition n) outer.0).0
 
-  pub limits_in : limits_right s.edition n ≡ true
-  limits_in = (and_parts (within s.asked 9999) (limits_right s.edition n) outer.0).1
+  pub limits_in : limits_right s.opening.edition n ≡ true
+  limits_in = (and_parts (within s.opening.asked 9999) (limits_right s.opening.edition n) outer.0).1
 
   pub items_in : within n 32 ≡ true
-  items_in = (and_parts (within n 32) (within s.edition 9999) limits_in).0
+  items_in = (and_parts (within n 32) (within s.opening.edition 9999) limits_in).0
 
-  pub edition_in : within s.edition 9999 ≡ true
-  edition_in = (and_parts (within n 32) (within s.edition 9999) limits_in).1
+  pub edition_in : within s.opening.edition 9999 ≡ true
+  edition_in = (and_parts (within n 32) (within s.opening.edition 9999) limits_in).1
 
   pub items_most : n ≤ 32
   items_most = leb-true n 32 (and_parts (leb 1 n) (leb n 32) items_in).1

@@ -23,9 +23,9 @@ pub record BlankElse (d : Draft) : Type 0 where
   pub counts_long : length d.counts ≡ 32
   pub links_long : length d.links ≡ 32
   pub rows_long : length d.rows ≡ 15872
-  pub counts : (i : ℕ) → d.items ≤ i → slice_index d.counts i ≡ 0
-  pub links : (i : ℕ) → d.items ≤ i → slice_index d.links i ≡ 0
-  pub rows : (k : ℕ) → rows_for d.items ≤ k → slice_index d.rows k ≡ 0
+  pub counts : (i : ℕ) → d.opening.items ≤ i → slice_index d.counts i ≡ 0
+  pub links : (i : ℕ) → d.opening.items ≤ i → slice_index d.links i ≡ 0
+  pub rows : (k : ℕ) → rows_for d.opening.items ≤ k → slice_index d.rows k ≡ 0
 
 pub record Accepted (b : List ℕ) (d : Draft) : Type 0 where
   pub text : b ≡ text_of (sheet_of d)
