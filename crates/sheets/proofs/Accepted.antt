@@ -10,25 +10,25 @@ use Rattle.bits.proofs.Belows.{every_i, every_at}
 use Rattle.bits.proofs.Tests.{to_true, of_true}
 use Rattle.bits.proofs.Words.{high_bit, some_bit}
 use Rattle.meaning.specs.Grid.{contents_right, link_bit, link_right, links_right, place, row_right, rows_for, rows_right, same, sizes_right}
-use Rattle.meaning.specs.Limits.{count_right, counts_right, limits_right, within}
+use Rattle.meaning.specs.Limits.{count_right, counts_right}
 use Rattle.sheets.specs.declared.draft.Draft.{Draft}
 use Rattle.sheets.specs.declared.draft.Opening.{Opening}
 use Rattle.sheets.specs.Fields.{cut}
-use Rattle.sheets.specs.Texts.{all_pair_lines, ended, lines_of, is_right, sheet_of, text_of, opening_line, opening_names, item_names, item_line, pair_names}
+use Rattle.sheets.specs.Texts.{opening_right, all_pair_lines, ended, lines_of, is_right, sheet_of, text_of, opening_line, opening_names, item_names, item_line, pair_names}
 use Rattle.sheets.specs.Reading.{closing, follow, start, is_whole}
 use Rattle.sheets.specs.Law.{Accepted, BlankElse, OnlyTexts}
 use Rattle.sheets.proofs.Cutting.{cut_joins}
 use Rattle.sheets.proofs.Drafted.{Drafted}
+use Rattle.sheets.proofs.Right.{opening_parts}
 use Rattle.sheets.proofs.Sound.{Items, sound_items, nothing_at}
 use Rattle.sheets.proofs.Steps.{cond_in, names_step, opened, opening_step, then_ok}
 
 -- the first lines
-pub starts : (o : Opening) → within o.asked 9999 ≡ true → within o.edition 9999 ≡ true → within o.items 32 ≡ true → Items (opened start o) 0
+pub starts : (o : Opening) → opening_right o ≡ true → Items (opened start o) 0
 unfolding start
-starts o a b c = record {
-  asked_in = a;
-  limits_in = and_from (within o.items 32) (within o.edition 9999) c b;
-  items_most = leb-true o.items 32 (and_parts (leb 1 o.items) (leb o.items 32) c).1;
+starts o h = record {
+  opening_in = h;
+  items_most = (opening_parts o h).2;
   counts_long = length-replicate 32 zero;
   counts_in = λ x l. absurd (omega arith);
   counts_past = λ x l. nothing_at 32 x;
@@ -48,8 +48,8 @@ sound_lines (x ∷ y ∷ []) c f w o = absurd (omega arith)
 sound_lines (x ∷ y ∷ z ∷ ls) c f w o =
     let p = names_step start 1 opening_names x (y ∷ z ∷ ls) c refl f in
     let q = opening_step start y (z ∷ ls) c p.1 in
-    let u = names_step (opened start q.0) 3 item_names z ls c refl q.5 in
-    let v = sound_items q.0.items (opened start q.0) 0 4 ls c (starts q.0 q.2 q.3 q.4) (omega arith) (omega arith) u.1 (omega arith) o in
+    let u = names_step (opened start q.0) 3 item_names z ls c refl q.3 in
+    let v = sound_items q.0.items (opened start q.0) 0 4 ls c (starts q.0 q.2) (omega arith) (omega arith) u.1 (omega arith) o in
     record {
       drafted = v.drafted;
       text = λ n. p.0 n ∷ (q.1 ∙ ap opening_line (sym v.fixed.opening)) n ∷ u.0 n
@@ -134,8 +134,8 @@ rows_enough n l = leb-true (rows_for n) 15872 (every_at 33 (λ k. leb (rows_for 
 
 pub right_now : (c : Draft) → Drafted c → is_right (sheet_of c) ≡ true
 right_now c h =
-    and_from (within c.opening.asked 9999 && limits_right c.opening.edition c.opening.items) (sizes_right c.opening.items c.counts c.links c.rows && contents_right c.opening.items c.counts c.links c.rows)
-    (and_from (within c.opening.asked 9999) (limits_right c.opening.edition c.opening.items) h.asked_in h.limits_in)
+    and_from (opening_right c.opening) (sizes_right c.opening.items c.counts c.links c.rows && contents_right c.opening.items c.counts c.links c.rows)
+    h.opening_in
     (and_from (sizes_right c.opening.items c.counts c.links c.rows) (contents_right c.opening.items c.counts c.links c.rows)
     (and_from (leb c.opening.items (length c.counts) && leb c.opening.items (length c.links)) (leb (rows_for c.opening.items) (length c.rows))
     (and_from (leb c.opening.items (length c.counts)) (leb c.opening.items (length c.links)) (le-leb c.opening.items (length c.counts) (omega (arith, h.items_most, h.counts_long))) (le-leb c.opening.items (length c.links) (omega (arith, h.items_most, h.links_long))))

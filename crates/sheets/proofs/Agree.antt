@@ -20,7 +20,7 @@ use Rattle.sheets.proofs.Forms.{pair_back}
 use Rattle.sheets.proofs.Partners.{bits_back, word_back}
 use Rattle.sheets.proofs.Places.{place_apart}
 use Rattle.sheets.proofs.Right as right
-use Rattle.sheets.proofs.Steps.{Fits, Turn, due_next, due_same, step_pair}
+use Rattle.sheets.proofs.Steps.{Fits, Turn, due_next, due_same, pass, step_pair}
 
 abbrev pub given_yet : ℕ → ℕ → ℕ → ℕ → Bool
 given_yet q a x b = ltb x q || (eqb x q && ltb b a)
@@ -49,10 +49,10 @@ accepts d k l f =
     let n = d.opening.items in
     cond-false (ltb l.second d.opening.items && not (eqb (length l.partners) (get_or d.counts l.second 0))) _ _
     (and_right (ltb l.second d.opening.items) (not (eqb (length l.partners) (get_or d.counts l.second 0))) (ap not (eq-eqb (length l.partners) (get_or d.counts l.second 0) f.long)))
-    ∙ cond-true (ltb l.first d.opening.items && (ltb l.second d.opening.items && ltb l.option (get_or d.counts l.first 0))) _ _
+    ∙ pass (ltb l.first d.opening.items && (ltb l.second d.opening.items && ltb l.option (get_or d.counts l.first 0))) _ _
     (and_from (ltb l.first d.opening.items) (ltb l.second d.opening.items && ltb l.option (get_or d.counts l.first 0)) (lt-ltb l.first d.opening.items (omega (arith, f.low, f.there)))
     (and_from (ltb l.second d.opening.items) (ltb l.option (get_or d.counts l.first 0)) (lt-ltb l.second d.opening.items f.there) (lt-ltb l.option (get_or d.counts l.first 0) f.an_option)))
-    ∙ cond-true (is_turn d.due l) _ _
+    ∙ pass (is_turn d.due l) _ _
     (and_from (ltb l.first l.second) _ (lt-ltb l.first l.second f.low)
     (and_from (eqb l.option d.due.option) _ (eq-eqb l.option d.due.option f.due) (turn_yes d.due (32 * l.first + l.second) f.turn)))
 

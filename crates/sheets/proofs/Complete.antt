@@ -1,16 +1,16 @@
 -- The text of a right junction is accepted, and read as that junction.
-use Rattle.std.proofs.Common.{◌≡◌, ℕ, zero, suc, ◌+◌, ◌-◌, ◌*◌, ◌<◌, ◌≤◌, Bool, true, false, cond, ◌&&◌, eqb, ltb, leb, ◌⊎◌, List, [], ◌∷◌, ◌++◌, map, length, get_or, set, Ok, sym, refl, ap, ◌∙◌, subst, inl, inr, arith}
+use Rattle.std.proofs.Common.{◌≡◌, ℕ, zero, suc, ◌+◌, ◌-◌, ◌*◌, ◌<◌, ◌≤◌, Bool, true, false, cond, ◌&&◌, eqb, ltb, ◌⊎◌, List, [], ◌∷◌, ◌++◌, map, length, get_or, set, Ok, sym, refl, ap, ◌∙◌, subst, inl, inr, arith}
 use Rattle.std.specs.List.{range_with_len, flat_map}
 use Rattle.std.proofs.lemmas.List.FromFn.{length-map-range_with_len}
 use Rattle.std.proofs.lemmas.List.{get_or-set_same, get_or-set_other}
-use Rattle.std.proofs.lemmas.Bool.{and_from, and_parts, cases_lt, cases_eq, cases_Bool, cond-true, cond-false, eq-eqb, ltb-true, leb-true, lt-ltb}
+use Rattle.std.proofs.lemmas.Bool.{and_from, and_parts, cases_lt, cases_eq, cases_Bool, cond-true, cond-false, eq-eqb, ltb-true, lt-ltb}
 use Rattle.std.proofs.lemmas.Bool.Decides.{nat_tests}
 use Rattle.meaning.specs.Grid.{link_bit, place}
 use Rattle.meaning.specs.Limits.{within}
 use Rattle.sheets.specs.declared.draft.Draft.{Draft}
 use Rattle.sheets.specs.declared.draft.Due.{Due}
 use Rattle.sheets.specs.declared.draft.Opening.{Opening}
-use Rattle.sheets.specs.Texts.{all_pair_lines, item_lines, Sheet, first, is_given, item_line, item_names, lines_of, opening_line, opening_names, pair_line, pair_lines, pair_names, is_right, second}
+use Rattle.sheets.specs.Texts.{opening_right, all_pair_lines, item_lines, Sheet, first, is_given, item_line, item_names, lines_of, opening_line, opening_names, pair_line, pair_lines, pair_names, is_right, second}
 use Rattle.sheets.specs.Reading.{follow, start, step, with_count}
 use Rattle.sheets.specs.Reading as reading
 use Rattle.sheets.proofs.Agree.{Agree, accepted, agree_next, due_last, due_more, given_yet, next}
@@ -18,7 +18,7 @@ use Rattle.sheets.proofs.Forms.{item_back, opening_back}
 use Rattle.sheets.proofs.Right as right
 use Rattle.sheets.proofs.Accepted.{starts}
 use Rattle.sheets.proofs.Sound.{Items, drafted_first, items_next, no_link, no_row, option_first, pair_first}
-use Rattle.sheets.proofs.Steps.{Turn, after_line, after_lines, names_back, opened, step_item, step_names}
+use Rattle.sheets.proofs.Steps.{Turn, after_line, after_lines, names_back, opened, pass, step_item, step_names}
 
 -- some draft is reached by the lines, of which P holds
 abbrev pub Reaches : Draft → ℕ → List (List ℕ) → (Draft → Type 0) → Type 0
@@ -144,8 +144,8 @@ module _ (s : Sheet) (ok : is_right s ≡ true) where
       let w = right.count_in s ok i l in
       step_item d (4 + i) (item_line s i) (omega arith) (omega (arith, (ap (λ (o : Opening). o.items) b.opening)))
       ∙ ap (reading.item d (4 + i)) (item_back (record { item = i; options = get_or s.counts i 0 }) (omega (arith, right.items_most s ok)) (omega (arith, right.count_most s ok i l)))
-      ∙ cond-true (ltb i d.opening.items && within (get_or s.counts i 0) 32) _ _ (and_from (ltb i d.opening.items) (within (get_or s.counts i 0) 32) (lt-ltb i d.opening.items (omega (arith, (ap (λ (o : Opening). o.items) b.opening)))) w)
-      ∙ cond-true (eqb (4 + i) (4 + i)) _ _ (eq-eqb (4 + i) (4 + i) refl)
+      ∙ pass (ltb i d.opening.items && within (get_or s.counts i 0) 32) _ _ (and_from (ltb i d.opening.items) (within (get_or s.counts i 0) 32) (lt-ltb i d.opening.items (omega (arith, (ap (λ (o : Opening). o.items) b.opening)))) w)
+      ∙ pass (eqb (4 + i) (4 + i)) _ _ (eq-eqb (4 + i) (4 + i) refl)
 
   item_read : (d : Draft) (i : ℕ) → i < s.opening.items → ReadItems i d → ReadItems (i + 1) (with_count d i (get_or s.counts i 0))
   item_read d i l b = record {
@@ -196,11 +196,8 @@ module _ (s : Sheet) (ok : is_right s ≡ true) where
 
   opening_accepted : (d : Draft) → step d 2 (opening_line s.opening) ≡ Ok (opened d s.opening)
   opening_accepted d =
-      let o = s.opening in
-      let small : (x : ℕ) → within x 9999 ≡ true → x < 10000 = λ x w. omega (arith, leb-true x 9999 (and_parts (leb 1 x) (leb x 9999) w).1) in
-      ap (reading.opening d 2) (opening_back s.opening (small s.opening.asked (right.asked_in s ok)) (small s.opening.edition (right.edition_in s ok)) (omega (arith, right.items_most s ok)))
-      ∙ cond-true (within s.opening.asked 9999 && (within s.opening.edition 9999 && within s.opening.items 32)) _ _
-      (and_from (within s.opening.asked 9999) (within s.opening.edition 9999 && within s.opening.items 32) (right.asked_in s ok) (and_from (within s.opening.edition 9999) (within s.opening.items 32) (right.edition_in s ok) (right.items_in s ok)))
+      ap (reading.opening d 2) (opening_back s.opening (omega (arith, right.asked_most s ok)) (omega (arith, right.edition_most s ok)) (omega (arith, right.items_most s ok)))
+      ∙ cond-true (opening_right s.opening) _ _ (right.opening_in s ok)
 
   pub whole_text : Reaches start 1 (lines_of s) (Between 1024)
   whole_text =
@@ -208,4 +205,4 @@ module _ (s : Sheet) (ok : is_right s ≡ true) where
       (one_line start (opened start s.opening) 2 (opening_line s.opening) (item_names ∷ (item_lines s ++ (pair_names ∷ all_pair_lines s))) (Between 1024) (opening_accepted start)
       (one_line (opened start s.opening) (opened start s.opening) 3 item_names (item_lines s ++ (pair_names ∷ all_pair_lines s)) (Between 1024) (names_back (opened start s.opening) 3 item_names)
       (from_items (opened start s.opening)
-      (record { items = starts s.opening (right.asked_in s ok) (right.edition_in s ok) (right.items_in s ok); opening = refl; counts = λ x l. absurd (omega arith) }))))
+      (record { items = starts s.opening (right.opening_in s ok); opening = refl; counts = λ x l. absurd (omega arith) }))))

@@ -9,12 +9,11 @@ use Rattle.std.proofs.lemmas.List.{get_or-set_same, get_or-set_other, length-set
 use Rattle.std.proofs.lemmas.Bool.{cases_lt, cases_eq, cases_Bool, cond-true, cond-false, cond_both}
 use Rattle.std.proofs.lemmas.Bool.Decides.{nat_tests}
 use Rattle.meaning.specs.Grid.{link_bit, place, rows_for}
-use Rattle.meaning.specs.Limits.{limits_right, within}
 use Rattle.meaning.proofs.Starts.{pair_within}
 use Rattle.sheets.specs.declared.draft.Draft.{Draft}
 use Rattle.sheets.specs.declared.draft.Due.{Due}
 use Rattle.sheets.specs.Fields.{PairLine, are_bits, partners, word_of}
-use Rattle.sheets.specs.Texts.{Sheet, sheet_of, first, second, is_given, pair_line, pair_lines, ◌·◌}
+use Rattle.sheets.specs.Texts.{opening_right, Sheet, sheet_of, first, second, is_given, pair_line, pair_lines, ◌·◌}
 use Rattle.sheets.specs.Reading.{with_row}
 use Rattle.sheets.proofs.Joins.{join_next, join_same, join_skip}
 use Rattle.sheets.proofs.Partners.{map_same, word_small, partners_only}
@@ -35,8 +34,7 @@ pub record Begun (d : Draft) : Type 0 where
   pub more : d.due.option < get_or d.counts i 0
 
 pub record Drafted (d : Draft) : Type 0 where
-  pub asked_in : within d.opening.asked 9999 ≡ true
-  pub limits_in : limits_right d.opening.edition d.opening.items ≡ true
+  pub opening_in : opening_right d.opening ≡ true
   pub items_most : d.opening.items ≤ 32
   pub counts_long : length d.counts ≡ 32
   pub links_long : length d.links ≡ 32
@@ -169,8 +167,7 @@ module _ (d : Draft) (h : Drafted d) (line : PairLine) (fits : Fits d line) (zer
 
   pub drafted_next : Drafted next
   drafted_next = record {
-    asked_in = h.asked_in;
-    limits_in = h.limits_in;
+    opening_in = h.opening_in;
     items_most = h.items_most;
     counts_long = h.counts_long;
     links_long = links_length d.links i j ∙ h.links_long;

@@ -4,7 +4,7 @@
 use Rattle.std.proofs.Common.{◌≡◌, ℕ, zero, suc, ◌+◌, ◌-◌, ◌*◌, ◌<◌, ◌≤◌, Bool, true, false, cond, not, ◌&&◌, eqb, ltb, ◌⊎◌, List, [], ◌∷◌, length, get_or, take, Some, None, Ok, Err, decimal, Option, Result, sym, refl, ap, ◌∙◌, subst, inl, inr, arith}
 use Rattle.std.specs.Str.{bytes_eq}
 use Rattle.std.proofs.lemmas.List.FromFn.{length-map-range_with_len}
-use Rattle.std.proofs.lemmas.Bool.{cases_lt, cond-true, eq-eqb, lt-ltb, and_from}
+use Rattle.std.proofs.lemmas.Bool.{cases_lt, eq-eqb, lt-ltb, and_from}
 use Rattle.bits.specs.Below.{one_if}
 use Rattle.bits.specs.Bits.{bit}
 use Rattle.meaning.specs.Limits.{within}
@@ -15,7 +15,7 @@ use Rattle.sheets.specs.declared.draft.Draft.{Draft}
 use Rattle.sheets.specs.declared.draft.Due.{Due}
 use Rattle.sheets.specs.declared.draft.Opening.{Opening}
 use Rattle.sheets.specs.Fields.{ItemLine, PairLine, are_bits, item_of, opening_of, pair_of, partners}
-use Rattle.sheets.specs.Texts.{item_names, opening_line, opening_names, pair_names, ◌·◌}
+use Rattle.sheets.specs.Texts.{opening_right, item_names, opening_line, opening_names, pair_names, ◌·◌}
 use Rattle.sheets.specs.Reading.{follow, start, step, with_count, with_row, ◌>>=◌}
 use Rattle.sheets.specs.Reading as reading
 use Rattle.sheets.proofs.Accepted.{starts}
@@ -24,7 +24,7 @@ use Rattle.sheets.proofs.Drafted.{Begun, Drafted, count_most, drafted_next}
 use Rattle.sheets.proofs.Forms.{item_back, opening_back, pair_back, pair_text}
 use Rattle.sheets.proofs.Partners.{bits_back}
 use Rattle.sheets.proofs.Sound.{Items, drafted_first, items_next}
-use Rattle.sheets.proofs.Steps.{Fits, after_line, due_next, due_same, item_step, names_back, names_step, ok_same, opened, opening_step, pair_step, step_item, step_names, step_pair}
+use Rattle.sheets.proofs.Steps.{Fits, after_line, due_next, due_same, item_step, names_back, names_step, ok_same, opened, opening_step, pair_step, pass, step_item, step_names, step_pair}
 
 abbrev At : ℕ → Result Draft Refusal → Type 0
 At k r = (e : Refusal) → r ≡ Err e → place_of e ≡ k
@@ -44,21 +44,20 @@ at_names d k due l = at_cond k (bytes_eq l due) (Ok d) (Err (Malformed k)) (at_o
 
 at_opening : (d : Draft) (k : ℕ) (f : Option Opening) → At k (reading.opening d k f)
 at_opening d k None = at_err k (Malformed k) refl
-at_opening d k (Some o) = at_cond k (within o.asked 9999 && (within o.edition 9999 && within o.items 32)) (Ok (opened d o)) (Err (OutOfLimits k)) (at_ok k (opened d o)) (at_err k (OutOfLimits k) refl)
+at_opening d k (Some o) = at_cond k (opening_right o) (Ok (opened d o)) (Err (OutOfLimits k)) (at_ok k (opened d o)) (at_err k (OutOfLimits k) refl)
 
 at_item : (d : Draft) (k : ℕ) (f : Option ItemLine) → At k (reading.item d k f)
 at_item d k None = at_err k (Malformed k) refl
 at_item d k (Some l) =
-    at_cond k (ltb l.item d.opening.items && within l.options 32) _ (Err (OutOfLimits k))
-    (at_cond k (eqb (4 + l.item) k) (Ok (with_count d l.item l.options)) (Err (OutOfTurn k)) (at_ok k (with_count d l.item l.options)) (at_err k (OutOfTurn k) refl)) (at_err k (OutOfLimits k) refl)
+    at_cond k (not (ltb l.item d.opening.items && within l.options 32)) (Err (OutOfLimits k)) _ (at_err k (OutOfLimits k) refl)
+    (at_cond k (not (eqb (4 + l.item) k)) (Err (OutOfTurn k)) _ (at_err k (OutOfTurn k) refl) (at_ok k (with_count d l.item l.options)))
 
 at_pair : (d : Draft) (k : ℕ) (f : Option PairLine) → At k (reading.pair d k f)
 at_pair d k None = at_err k (Malformed k) refl
 at_pair d k (Some l) =
     at_cond k (ltb l.second d.opening.items && not (eqb (length l.partners) (get_or d.counts l.second 0))) (Err (Malformed k)) _ (at_err k (Malformed k) refl)
-    (at_cond k (ltb l.first d.opening.items && (ltb l.second d.opening.items && ltb l.option (get_or d.counts l.first 0))) _ (Err (OutOfLimits k))
-    (at_cond k (reading.is_turn d.due l) (Ok (with_row d l)) (Err (OutOfTurn k)) (at_ok k (with_row d l)) (at_err k (OutOfTurn k) refl))
-    (at_err k (OutOfLimits k) refl))
+    (at_cond k (not (ltb l.first d.opening.items && (ltb l.second d.opening.items && ltb l.option (get_or d.counts l.first 0)))) (Err (OutOfLimits k)) _ (at_err k (OutOfLimits k) refl)
+    (at_cond k (not (reading.is_turn d.due l)) (Err (OutOfTurn k)) _ (at_err k (OutOfTurn k) refl) (at_ok k (with_row d l))))
 
 at_step : (d : Draft) (k : ℕ) (l : List ℕ) → At k (step d k l)
 at_step d k l =
@@ -192,8 +191,8 @@ after_items (suc m) d i k h e f =
     one_more d (with_count d i 1) k (decimal i · decimal 1)
     (step_item d k (decimal i · decimal 1) (omega arith) (omega arith)
     ∙ ap (reading.item d k) (item_back (record { item = i; options = 1 }) (omega (arith, h.items_most)) (omega arith))
-    ∙ cond-true (ltb i d.opening.items && within 1 32) _ (Err (OutOfLimits k)) (and_from (ltb i d.opening.items) (within 1 32) (lt-ltb i d.opening.items (omega arith)) refl)
-    ∙ cond-true (eqb (4 + i) k) (Ok (with_count d i 1)) (Err (OutOfTurn k)) (eq-eqb (4 + i) k (sym f)))
+    ∙ pass (ltb i d.opening.items && within 1 32) _ (OutOfLimits k) (and_from (ltb i d.opening.items) (within 1 32) (lt-ltb i d.opening.items (omega arith)) refl)
+    ∙ pass (eqb (4 + i) k) (Ok (with_count d i 1)) (OutOfTurn k) (eq-eqb (4 + i) k (sym f)))
     (after_items m (with_count d i 1) (i + 1) (k + 1) (items_next d i 1 h (omega arith) refl) (omega arith) (omega arith))
 
 -- from any lines that were accepted
@@ -223,7 +222,7 @@ abbrev least : Opening
 least = record { asked = 1; edition = 1; items = 1 }
 
 after_names : Viable start 2
-after_names = one_more start (opened start least) 2 (opening_line least) (ap (reading.opening start 2) (opening_back least (omega arith) (omega arith) (omega arith))) (after_opening least (starts least refl refl refl))
+after_names = one_more start (opened start least) 2 (opening_line least) (ap (reading.opening start 2) (opening_back least (omega arith) (omega arith) (omega arith))) (after_opening least (starts least refl))
 
 pub go_on : (ls : List (List ℕ)) (c : Draft) → follow start 1 ls ≡ Ok c → Viable c (1 + length ls)
 go_on [] c f = subst (λ (x : Draft). Viable x 1) (ok_same start c f) (one_more start start 1 opening_names (names_back start 1 opening_names) after_names)
@@ -233,12 +232,12 @@ go_on (x ∷ []) c f =
 go_on (x ∷ y ∷ []) c f =
     let p = names_step start 1 opening_names x (y ∷ []) c refl f in
     let q = opening_step start y [] c p.1 in
-    subst (λ (b : Draft). Viable b 3) (ok_same (opened start q.0) c q.5) (after_opening q.0 (starts q.0 q.2 q.3 q.4))
+    subst (λ (b : Draft). Viable b 3) (ok_same (opened start q.0) c q.3) (after_opening q.0 (starts q.0 q.2))
 go_on (x ∷ y ∷ z ∷ ls) c f =
     let p = names_step start 1 opening_names x (y ∷ z ∷ ls) c refl f in
     let q = opening_step start y (z ∷ ls) c p.1 in
-    let u = names_step (opened start q.0) 3 item_names z ls c refl q.5 in
-    subst (Viable c) (omega arith) (go_items (opened start q.0) 0 4 ls c (starts q.0 q.2 q.3 q.4) (omega arith) (omega arith) u.1)
+    let u = names_step (opened start q.0) 3 item_names z ls c refl q.3 in
+    subst (Viable c) (omega arith) (go_items (opened start q.0) 0 4 ls c (starts q.0 q.2) (omega arith) (omega arith) u.1)
 
 pub closing_line : (k : ℕ) (rest : List ℕ) (d : Draft) (e : Refusal) → reading.closing k rest d ≡ Err e → place_of e ≡ k
 closing_line k rest d e h = at_cond k (reading.is_whole d k rest) (Ok d) (Err (Malformed k)) (at_ok k d) (at_err k (Malformed k) refl) e h

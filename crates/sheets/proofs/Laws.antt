@@ -4,7 +4,7 @@ use Rattle.std.specs.Result.{result_and}
 use Rattle.std.specs.List.{range_with_len, flat_map}
 use Rattle.std.proofs.lemmas.List.{length-append, take_all}
 use Rattle.std.proofs.lemmas.List.FromFn.{length-map-range_with_len}
-use Rattle.std.proofs.lemmas.Bool.{and_from, and_parts, cases_order, cases_Bool, cond-true, cond-false, eq-eqb, eqb-false, ltb-true, lt-ltb, leb-true, le-leb, not-true}
+use Rattle.std.proofs.lemmas.Bool.{and_from, and_parts, cases_order, cases_Bool, cond-true, cond-false, eq-eqb, eqb-false, ltb-true, lt-ltb, le-leb, not-true}
 use Rattle.std.proofs.lemmas.Bool.Decides.{nat_tests}
 use Rattle.bits.specs.Bits.{bit}
 use Rattle.meaning.specs.Grid.{contents_right, grid_check, link_bit, place, sizes_right}
@@ -68,13 +68,10 @@ unfolding is_free
 pair_names_free = free_yes 10 pair_names refl
 
 module _ (s : Sheet) (ok : is_right s ≡ true) where
-  within_small : (x : ℕ) → within x 9999 ≡ true → x < 10000
-  within_small x w = omega (arith, leb-true x 9999 (and_parts (leb 1 x) (leb x 9999) w).1)
-
   opening_free : Free 10 (opening_line s.opening)
   opening_free =
-      comma_free (decimal s.opening.asked) (decimal s.opening.edition · decimal s.opening.items) (small_free s.opening.asked (within_small s.opening.asked (right.asked_in s ok)))
-      (comma_free (decimal s.opening.edition) (decimal s.opening.items) (small_free s.opening.edition (within_small s.opening.edition (right.edition_in s ok))) (small_free s.opening.items (omega (arith, right.items_most s ok))))
+      comma_free (decimal s.opening.asked) (decimal s.opening.edition · decimal s.opening.items) (small_free s.opening.asked (omega (arith, right.asked_most s ok)))
+      (comma_free (decimal s.opening.edition) (decimal s.opening.items) (small_free s.opening.edition (omega (arith, right.edition_most s ok))) (small_free s.opening.items (omega (arith, right.items_most s ok))))
 
   item_free : (i : ℕ) → i < s.opening.items → Free 10 (item_line s i)
   item_free i l = comma_free (decimal i) (decimal (get_or s.counts i 0)) (small_free i (omega (arith, right.items_most s ok))) (small_free (get_or s.counts i 0) (omega (arith, right.count_most s ok i l)))

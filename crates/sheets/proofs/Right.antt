@@ -8,7 +8,8 @@ use Rattle.bits.proofs.Belows.{every_at}
 use Rattle.bits.proofs.Words.{bit_high, bit_up}
 use Rattle.meaning.specs.Grid.{contents_right, link_bit, link_right, links_right, place, row_right, rows_right, same, sizes_right}
 use Rattle.meaning.specs.Limits.{count_right, counts_right, limits_right, within}
-use Rattle.sheets.specs.Texts.{Sheet, is_right}
+use Rattle.sheets.specs.declared.draft.Opening.{Opening}
+use Rattle.sheets.specs.Texts.{Sheet, is_right, opening_right}
 use Rattle.sheets.proofs.Partners.{low_bit}
 
 same_is : (x y : Bool) → same x y ≡ true → x ≡ y
@@ -26,27 +27,35 @@ same_word (suc n) x y h l e =
     let high : x / 2 ≡ y / 2 = same_word n (x / 2) (y / 2) (omega arith) (omega arith) (λ k m. sym (bit_up x k) ∙ e (suc k) (omega arith) ∙ bit_up y k) in
     omega arith
 
+pub within_parts : (x most : ℕ) → within x most ≡ true → (1 ≤ x) × (x ≤ most)
+within_parts x most e =
+    let p = and_parts (leb 1 x) (leb x most) e in
+    (leb-true 1 x p.0, leb-true x most p.1)
+
+pub opening_parts : (o : Opening) → opening_right o ≡ true → (o.asked ≤ 9999) × (o.edition ≤ 9999) × (o.items ≤ 32)
+opening_parts o e =
+    let p = and_parts (within o.asked 9999) (limits_right o.edition o.items) e in
+    let q = and_parts (within o.items 32) (within o.edition 9999) p.1 in
+    ((within_parts o.asked 9999 p.0).1, (within_parts o.edition 9999 q.1).1, (within_parts o.items 32 q.0).1)
+
 module _ (s : Sheet) (ok : is_right s ≡ true) where
   abbrev n : ℕ
   n = s.opening.items
 
-  outer : (within s.opening.asked 9999 && limits_right s.opening.edition n ≡ true) × (sizes_right n s.counts s.links s.rows && contents_right n s.counts s.links s.rows ≡ true)
-  outer = and_parts (within s.opening.asked 9999 && limits_right s.opening.edition n) (sizes_right n s.counts s.links s.rows && contents_right n s.counts s.links s.rows) ok
+  outer : (opening_right s.opening ≡ true) × (sizes_right n s.counts s.links s.rows && contents_right n s.counts s.links s.rows ≡ true)
+  outer = and_parts (opening_right s.opening) (sizes_right n s.counts s.links s.rows && contents_right n s.counts s.links s.rows) ok
 
-  pub asked_in : within s.opening.asked 9999 ≡ true
-  asked_in = (and_parts (within s.opening.asked 9999) (limits_right s.opening.edition n) outer.0).0
+  pub opening_in : opening_right s.opening ≡ true
+  opening_in = outer.0
 
-  pub limits_in : limits_right s.opening.edition n ≡ true
-  limits_in = (and_parts (within s.opening.asked 9999) (limits_right s.opening.edition n) outer.0).1
+  pub asked_most : s.opening.asked ≤ 9999
+  asked_most = (opening_parts s.opening opening_in).0
 
-  pub items_in : within n 32 ≡ true
-  items_in = (and_parts (within n 32) (within s.opening.edition 9999) limits_in).0
-
-  pub edition_in : within s.opening.edition 9999 ≡ true
-  edition_in = (and_parts (within n 32) (within s.opening.edition 9999) limits_in).1
+  pub edition_most : s.opening.edition ≤ 9999
+  edition_most = (opening_parts s.opening opening_in).1
 
   pub items_most : n ≤ 32
-  items_most = leb-true n 32 (and_parts (leb 1 n) (leb n 32) items_in).1
+  items_most = (opening_parts s.opening opening_in).2
 
   contents : contents_right n s.counts s.links s.rows ≡ true
   contents = (and_parts (sizes_right n s.counts s.links s.rows) (contents_right n s.counts s.links s.rows) outer.1).1
@@ -64,10 +73,10 @@ module _ (s : Sheet) (ok : is_right s ≡ true) where
   count_in i l = every_at n (count_right s.counts) inner.0 i l
 
   pub count_most : (i : ℕ) → i < n → get_or s.counts i 0 ≤ 32
-  count_most i l = leb-true (get_or s.counts i 0) 32 (and_parts (leb 1 (get_or s.counts i 0)) (leb (get_or s.counts i 0) 32) (count_in i l)).1
+  count_most i l = (within_parts (get_or s.counts i 0) 32 (count_in i l)).1
 
   pub count_least : (i : ℕ) → i < n → 1 ≤ get_or s.counts i 0
-  count_least i l = leb-true 1 (get_or s.counts i 0) (and_parts (leb 1 (get_or s.counts i 0)) (leb (get_or s.counts i 0) 32) (count_in i l)).0
+  count_least i l = (within_parts (get_or s.counts i 0) 32 (count_in i l)).0
 
   link_at : (i : ℕ) → i < n → (ltb (get_or s.links i 0) (2 ^ n) && not (link_bit s.links i i) ≡ true) × (every n (λ j. same (link_bit s.links i j) (link_bit s.links j i)) ≡ true)
   link_at i l = and_parts (ltb (get_or s.links i 0) (2 ^ n) && not (link_bit s.links i i)) (every n (λ j. same (link_bit s.links i j) (link_bit s.links j i))) (every_at n (link_right n s.links) links_hold i l)

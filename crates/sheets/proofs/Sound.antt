@@ -1,21 +1,22 @@
 -- What is read was the text of a right junction.
 -- Fixed: the later draft has the editions and the items of the earlier one, and its counts below i
 -- Items d i: what holds of a draft whose first i items are read, and nothing after them
-use Rattle.std.proofs.Common.{◌≡◌, ℕ, zero, suc, ◌+◌, ◌-◌, ◌^◌, ◌<◌, ◌≤◌, true, false, leb, List, [], ◌∷◌, ◌++◌, map, length, get_or, set, replicate, Ok, decimal, Result, sym, refl, ap, ◌∙◌, subst, inl, inr, append_assoc, append-nil, arith, pow_pos}
+use Rattle.std.proofs.Common.{◌≡◌, ℕ, zero, suc, ◌+◌, ◌-◌, ◌^◌, ◌<◌, ◌≤◌, true, false, List, [], ◌∷◌, ◌++◌, map, length, get_or, set, replicate, Ok, decimal, Result, sym, refl, ap, ◌∙◌, subst, inl, inr, append_assoc, append-nil, arith, pow_pos}
 use Rattle.std.specs.List.{range_with_len, flat_map}
 use Rattle.std.proofs.lemmas.List.{get_or-set_same, get_or-set_other, length-set, length-replicate, get_or-replicate, get_or_past}
-use Rattle.std.proofs.lemmas.Bool.{and_parts, cases_lt, cases_eq, leb-true}
+use Rattle.std.proofs.lemmas.Bool.{cases_lt, cases_eq}
 use Rattle.bits.proofs.Words.{bit_none}
 use Rattle.meaning.specs.Grid.{link_bit, place}
-use Rattle.meaning.specs.Limits.{limits_right, within}
+use Rattle.meaning.specs.Limits.{within}
 use Rattle.meaning.specs.declared.refusal.Refusal.{Refusal}
 use Rattle.sheets.specs.declared.draft.Draft.{Draft}
 use Rattle.sheets.specs.declared.draft.Due.{Due}
-use Rattle.sheets.specs.Texts.{all_pair_lines, sheet_of, item_line, pair_lines, pair_names, ◌·◌}
+use Rattle.sheets.specs.Texts.{opening_right, all_pair_lines, sheet_of, item_line, pair_lines, pair_names, ◌·◌}
 use Rattle.sheets.specs.Reading.{follow, with_count}
 use Rattle.sheets.proofs.Drafted.{Drafted, up_to, skipped, next, drafted_next, seen_next}
 use Rattle.sheets.proofs.Forms.{pair_text}
 use Rattle.sheets.proofs.Joins.{join_skip}
+use Rattle.sheets.proofs.Right.{within_parts}
 use Rattle.sheets.proofs.Steps.{item_step, names_step, ok_same, pair_step, step_names}
 
 pub record Fixed (d c : Draft) (i : ℕ) : Type 0 where
@@ -50,8 +51,7 @@ all_pairs c h o =
     ∙ ap (λ (v : ℕ). flat_map (pair_lines (sheet_of c)) (range_with_len 0 v)) m
 
 pub record Items (d : Draft) (i : ℕ) : Type 0 where
-  pub asked_in : within d.opening.asked 9999 ≡ true
-  pub limits_in : limits_right d.opening.edition d.opening.items ≡ true
+  pub opening_in : opening_right d.opening ≡ true
   pub items_most : d.opening.items ≤ 32
   pub counts_long : length d.counts ≡ 32
   pub counts_in : (x : ℕ) → x < i → (1 ≤ get_or d.counts x 0) × (get_or d.counts x 0 ≤ 32)
@@ -82,8 +82,7 @@ module _ (d : Draft) (i : ℕ) (h : Items d i) where
 
   pub drafted_first : i ≡ d.opening.items → Drafted d
   drafted_first e = record {
-    asked_in = h.asked_in;
-    limits_in = h.limits_in;
+    opening_in = h.opening_in;
     items_most = h.items_most;
     counts_long = h.counts_long;
     links_long = ap length h.no_links ∙ length-replicate 32 zero;
@@ -103,15 +102,14 @@ module _ (d : Draft) (i : ℕ) (h : Items d i) where
 
 pub items_next : (d : Draft) (i c : ℕ) → Items d i → i < d.opening.items → within c 32 ≡ true → Items (with_count d i c) (i + 1)
 items_next d i c h l w = record {
-  asked_in = h.asked_in;
-  limits_in = h.limits_in;
+  opening_in = h.opening_in;
   items_most = h.items_most;
   counts_long = length-set d.counts i c ∙ h.counts_long;
   counts_in = λ x k. elim (cases_eq x i) [
     | inl e ↦
         let v : get_or (set d.counts i c) x 0 ≡ c = ap (λ (y : ℕ). get_or (set d.counts i c) y 0) e ∙ get_or-set_same d.counts i c 0 (omega (arith, h.counts_long, h.items_most)) in
-        let p = and_parts (leb 1 c) (leb c 32) w in
-        (omega (arith, v, leb-true 1 c p.0), omega (arith, v, leb-true c 32 p.1))
+        let p = within_parts c 32 w in
+        (omega (arith, v, p.0), omega (arith, v, p.1))
     | inr ne ↦
         let v : get_or (set d.counts i c) x 0 ≡ get_or d.counts x 0 = get_or-set_other d.counts i x c 0 ne in
         let b = h.counts_in x (omega arith) in

@@ -3,7 +3,8 @@
 -- Fits d l: the pair line l may come after d
 use Rattle.std.proofs.Common.{◌≡◌, ℕ, ◌+◌, ◌*◌, ◌<◌, ◌≤◌, Bool, true, false, cond, not, ◌&&◌, eqb, ltb, leb, ◌⊎◌, List, [], ◌∷◌, ◌++◌, length, get_or, Some, None, Ok, Err, Option, decimal, Result, sym, refl, ap, ◌∙◌, inl, inr, arith}
 use Rattle.std.specs.Str.{bytes_eq}
-use Rattle.std.proofs.lemmas.Bool.{and_parts, cases_Bool, cond-true, cond-false, eqb-true, leb-true, ltb-true, eq-eqb, lt-ltb, le-ltb}
+use Rattle.std.proofs.lemmas.Slice.Eq.{bytes_eq-Decides}
+use Rattle.std.proofs.lemmas.Bool.{not_from_true, and_parts, cases_Bool, cond-true, cond-false, eqb-true, leb-true, ltb-true, lt-ltb, le-ltb}
 use Rattle.std.proofs.lemmas.Bool.Decides.{nat_tests}
 use Rattle.meaning.specs.Limits.{within}
 use Rattle.meaning.specs.declared.refusal.Refusal.{Refusal}
@@ -12,7 +13,7 @@ use Rattle.sheets.specs.declared.draft.Draft.{Draft}
 use Rattle.sheets.specs.declared.draft.Due.{Due}
 use Rattle.sheets.specs.declared.draft.Opening.{Opening}
 use Rattle.sheets.specs.Fields.{ItemLine, PairLine, are_bits, item_of, opening_of, pair_of}
-use Rattle.sheets.specs.Texts.{opening_line, pair_names, ◌·◌}
+use Rattle.sheets.specs.Texts.{opening_right, opening_line, pair_names, ◌·◌}
 use Rattle.sheets.specs.Reading.{due_after, with_count, with_row, is_turn, step, follow, ◌>>=◌}
 use Rattle.sheets.specs.Reading as reading
 use Rattle.sheets.proofs.Forms.{item_only, opening_only, pair_only, pair_text}
@@ -25,6 +26,13 @@ cond_out : (b : Bool) (r : Result Draft Refusal) (e : Refusal) (d : Draft) → c
 cond_out true r e d h = absurd cc
 cond_out false r e d h = (refl, h)
 
+passed : (b : Bool) (r : Result Draft Refusal) (e : Refusal) (d : Draft) → cond (not b) (Err e) r ≡ Ok d → (b ≡ true) × (r ≡ Ok d)
+passed true r e d h = (refl, h)
+passed false r e d h = absurd cc
+
+pub pass : (b : Bool) (r : Result Draft Refusal) (e : Refusal) → b ≡ true → cond (not b) (Err e) r ≡ r
+pass b r e h = cond-false (not b) (Err e) r (not_from_true b h)
+
 pub ok_same : (d c : Draft) → ◌≡◌ {A = Result Draft Refusal} (Ok d) (Ok c) → d ≡ c
 ok_same d c e = cc
 
@@ -32,46 +40,31 @@ pub then_ok : (r : Result Draft Refusal) (f : Draft → Result Draft Refusal) (d
 then_ok (Err e) f d h = absurd cc
 then_ok (Ok c) f d h = (c, refl, h)
 
-same_bytes : (xs ys : List ℕ) → bytes_eq xs ys ≡ true → xs ≡ ys
-same_bytes [] [] e = refl
-same_bytes [] (y ∷ ys) e = absurd cc
-same_bytes (x ∷ xs) [] e = absurd cc
-same_bytes (x ∷ xs) (y ∷ ys) e =
-    let p = and_parts (eqb x y) (bytes_eq xs ys) e in
-    λ i. eqb-true x y p.0 i ∷ same_bytes xs ys p.1 i
-
-bytes_same : (xs : List ℕ) → bytes_eq xs xs ≡ true
-bytes_same [] = refl
-bytes_same (x ∷ xs) = let ih = bytes_same xs in let e = eq-eqb x x refl in grind (arith, nat_tests)
-
 names_ok : (d : Draft) (k : ℕ) (due l : List ℕ) (c : Draft) → reading.names d k due l ≡ Ok c → (l ≡ due) × (d ≡ c)
 names_ok d k due l c e =
     let p = cond_in (bytes_eq l due) (Ok d) _ c e in
-    (same_bytes l due p.0, ok_same d c p.1)
+    ((bytes_eq-Decides l due).0 p.0, ok_same d c p.1)
 
 pub names_back : (d : Draft) (k : ℕ) (due : List ℕ) → reading.names d k due due ≡ Ok d
-names_back d k due = cond-true (bytes_eq due due) (Ok d) (Err (Malformed k)) (bytes_same due)
+names_back d k due = cond-true (bytes_eq due due) (Ok d) (Err (Malformed k)) ((bytes_eq-Decides due due).1 refl)
 
 abbrev pub opened : Draft → Opening → Draft
 opened d o = record d { opening = o }
 
 opening_ok : (d : Draft) (k : ℕ) (f : Option Opening) (c : Draft) → reading.opening d k f ≡ Ok c
-    → (o : Opening) × (f ≡ Some o) × (within o.asked 9999 ≡ true) × (within o.edition 9999 ≡ true) × (within o.items 32 ≡ true) × (opened d o ≡ c)
+    → (o : Opening) × (f ≡ Some o) × (opening_right o ≡ true) × (opened d o ≡ c)
 opening_ok d k None c e = absurd cc
 opening_ok d k (Some o) c e =
-    let p = cond_in (within o.asked 9999 && (within o.edition 9999 && within o.items 32)) (Ok (opened d o)) _ c e in
-    let q = and_parts (within o.asked 9999) (within o.edition 9999 && within o.items 32) p.0 in
-    let r = and_parts (within o.edition 9999) (within o.items 32) q.1 in
-    (o, refl, q.0, r.0, r.1, ok_same (opened d o) c p.1)
+    let p = cond_in (opening_right o) (Ok (opened d o)) _ c e in
+    (o, refl, p.0, ok_same (opened d o) c p.1)
 
 item_ok : (d : Draft) (k : ℕ) (f : Option ItemLine) (c : Draft) → reading.item d k f ≡ Ok c
-    → (l : ItemLine) × (f ≡ Some l) × (l.item < d.opening.items) × (within l.options 32 ≡ true) × (4 + l.item ≡ k) × (with_count d l.item l.options ≡ c)
+    → (l : ItemLine) × (f ≡ Some l) × (within l.options 32 ≡ true) × (4 + l.item ≡ k) × (with_count d l.item l.options ≡ c)
 item_ok d k None c e = absurd cc
 item_ok d k (Some l) c e =
-    let p = cond_in (ltb l.item d.opening.items && within l.options 32) (cond (eqb (4 + l.item) k) (Ok (with_count d l.item l.options)) (Err _)) _ c e in
-    let q = and_parts (ltb l.item d.opening.items) (within l.options 32) p.0 in
-    let r = cond_in (eqb (4 + l.item) k) (Ok (with_count d l.item l.options)) _ c p.1 in
-    (l, refl, ltb-true l.item d.opening.items q.0, q.1, eqb-true (4 + l.item) k r.0, ok_same (with_count d l.item l.options) c r.1)
+    let p = passed (ltb l.item d.opening.items && within l.options 32) _ _ c e in
+    let q = passed (eqb (4 + l.item) k) _ _ c p.1 in
+    (l, refl, (and_parts (ltb l.item d.opening.items) (within l.options 32) p.0).1, eqb-true (4 + l.item) k q.0, ok_same (with_count d l.item l.options) c q.1)
 
 abbrev pub Turn : Due → ℕ → Type 0
 Turn e q = ((e.option ≡ 0) × (e.pair ≤ q)) ⊎ (e.pair ≡ q)
@@ -97,8 +90,8 @@ pair_ok d k (Some l) c e =
     let n = d.opening.items in
     let q = 32 * l.first + l.second in
     let p = cond_out (ltb l.second d.opening.items && not (eqb (length l.partners) (get_or d.counts l.second 0))) _ _ c e in
-    let r = cond_in (ltb l.first d.opening.items && (ltb l.second d.opening.items && ltb l.option (get_or d.counts l.first 0))) _ _ c p.1 in
-    let s = cond_in (is_turn d.due l) (Ok (with_row d l)) _ c r.1 in
+    let r = passed (ltb l.first d.opening.items && (ltb l.second d.opening.items && ltb l.option (get_or d.counts l.first 0))) _ _ c p.1 in
+    let s = passed (is_turn d.due l) _ _ c r.1 in
     let x = and_parts (ltb l.first d.opening.items) (ltb l.second d.opening.items && ltb l.option (get_or d.counts l.first 0)) r.0 in
     let y = and_parts (ltb l.second d.opening.items) (ltb l.option (get_or d.counts l.first 0)) x.1 in
     let t = and_parts (ltb l.first l.second) _ s.0 in
@@ -147,20 +140,20 @@ names_step d k due x ls c h e =
     (p.0, from_line d r.0 (k + 1) ls c p.1 r.2)
 
 pub opening_step : (d : Draft) (x : List ℕ) (ls : List (List ℕ)) (c : Draft) → follow d 2 (x ∷ ls) ≡ Ok c
-    → (o : Opening) × (x ≡ opening_line o) × (within o.asked 9999 ≡ true) × (within o.edition 9999 ≡ true) × (within o.items 32 ≡ true) × (follow (opened d o) 3 ls ≡ Ok c)
+    → (o : Opening) × (x ≡ opening_line o) × (opening_right o ≡ true) × (follow (opened d o) 3 ls ≡ Ok c)
 opening_step d x ls c e =
     let r = line_ok d 2 x ls c e in
     let p = opening_ok d 2 (opening_of x) r.0 r.1 in
-    (p.0, opening_only x p.0 p.1, p.2, p.3, p.4, from_line (opened d p.0) r.0 3 ls c p.5 r.2)
+    (p.0, opening_only x p.0 p.1, p.2, from_line (opened d p.0) r.0 3 ls c p.3 r.2)
 
 pub item_step : (d : Draft) (i k : ℕ) (x : List ℕ) (ls : List (List ℕ)) (c : Draft) → i < d.opening.items → k ≡ 4 + i → follow d k (x ∷ ls) ≡ Ok c
     → (n : ℕ) × (x ≡ decimal i · decimal n) × (within n 32 ≡ true) × (follow (with_count d i n) (k + 1) ls ≡ Ok c)
 item_step d i k x ls c l h e =
     let r = line_ok d k x ls c e in
     let p = item_ok d k (item_of x) r.0 (sym (step_item d k x (omega arith) (omega arith)) ∙ r.1) in
-    let is : p.0.item ≡ i = omega (arith, p.4) in
+    let is : p.0.item ≡ i = omega (arith, p.3) in
     let n = p.0.options in
-    (n, item_only x p.0 p.1 ∙ (λ v. decimal (is v) · decimal n), p.3, from_line (with_count d i n) r.0 (k + 1) ls c ((λ v. with_count d (sym is v) n) ∙ p.5) r.2)
+    (n, item_only x p.0 p.1 ∙ (λ v. decimal (is v) · decimal n), p.2, from_line (with_count d i n) r.0 (k + 1) ls c ((λ v. with_count d (sym is v) n) ∙ p.4) r.2)
 
 pub pair_step : (d : Draft) (k : ℕ) (x : List ℕ) (ls : List (List ℕ)) (c : Draft) → 4 + d.opening.items < k → follow d k (x ∷ ls) ≡ Ok c
     → (l : PairLine) × (x ≡ pair_text l) × (are_bits l.partners ≡ true) × Fits d l × (follow (with_row d l) (k + 1) ls ≡ Ok c)

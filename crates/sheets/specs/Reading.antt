@@ -16,7 +16,7 @@ use Rattle.sheets.specs.declared.draft.Draft.{Draft}
 use Rattle.sheets.specs.declared.draft.Due.{Due}
 use Rattle.sheets.specs.declared.draft.Opening.{Opening}
 use Rattle.sheets.specs.Fields.{ItemLine, PairLine, cut, item_of, opening_of, pair_of, word_of}
-use Rattle.sheets.specs.Texts.{item_names, opening_names, pair_names}
+use Rattle.sheets.specs.Texts.{item_names, opening_names, opening_right, pair_names}
 
 unfoldable pub start : Draft
 start = record {
@@ -30,7 +30,7 @@ start = record {
 abbrev pub opening : Draft → ℕ → Option Opening → Result Draft Refusal
 opening d k None = Err (Malformed k)
 opening d k (Some o) =
-    if within o.asked 9999 && (within o.edition 9999 && within o.items 32) then Ok (record d { opening = o })
+    if opening_right o then Ok (record d { opening = o })
     else Err (OutOfLimits k)
 
 abbrev pub with_count : Draft → ℕ → ℕ → Draft
@@ -39,9 +39,9 @@ with_count d i c = record d { counts = slice_set d.counts i c }
 abbrev pub item : Draft → ℕ → Option ItemLine → Result Draft Refusal
 item d k None = Err (Malformed k)
 item d k (Some l) =
-    if nat_lt l.item d.opening.items && within l.options 32 then
-    (if 4 + l.item == k then Ok (with_count d l.item l.options) else Err (OutOfTurn k))
-    else Err (OutOfLimits k)
+    if not (nat_lt l.item d.opening.items && within l.options 32) then Err (OutOfLimits k)
+    else if not (4 + l.item == k) then Err (OutOfTurn k)
+    else Ok (with_count d l.item l.options)
 
 -- after the last option of a pair any later pair may come, from its option 0 on
 abbrev pub is_turn : Due → PairLine → Bool
@@ -67,9 +67,10 @@ abbrev pub pair : Draft → ℕ → Option PairLine → Result Draft Refusal
 pair d k None = Err (Malformed k)
 pair d k (Some l) =
     if nat_lt l.second d.opening.items && not (length l.partners == slice_index d.counts l.second) then Err (Malformed k)
-    else if nat_lt l.first d.opening.items && (nat_lt l.second d.opening.items && nat_lt l.option (slice_index d.counts l.first)) then
-    (if is_turn d.due l then Ok (with_row d l) else Err (OutOfTurn k))
-    else Err (OutOfLimits k)
+    else if not (nat_lt l.first d.opening.items && (nat_lt l.second d.opening.items && nat_lt l.option (slice_index d.counts l.first))) then
+    Err (OutOfLimits k)
+    else if not (is_turn d.due l) then Err (OutOfTurn k)
+    else Ok (with_row d l)
 
 abbrev pub names : Draft → ℕ → List ℕ → List ℕ → Result Draft Refusal
 names d k due l = if bytes_eq l due then Ok d else Err (Malformed k)

@@ -1,6 +1,6 @@
 -- The text of a junction: the one sheet that says it.
 -- Sheet: a junction in the grid book's layout, opened by the edition asked for, the edition of its tables and its number of items
--- is_right: both editions, the sizes and the contents are within what the grid book's check accepts
+-- opening_right, is_right: both editions, the sizes and the contents are within what the grid book's check accepts
 -- lines_of: the lines of its text; text_of: these lines, each ended by byte 10
 -- first q, second q: the items of the pair q; is_given s q: the pair q is a linked one, its lower item first
 -- Same s t: two sheets say the same junction and both editions
@@ -30,9 +30,12 @@ sheet_of_parts asked p = record {
   rows = p.rows.now;
 }
 
+abbrev pub opening_right : Opening → Bool
+opening_right o = within o.asked 9999 && limits_right o.edition o.items
+
 abbrev pub is_right : Sheet → Bool
 is_right s =
-    (within s.opening.asked 9999 && limits_right s.opening.edition s.opening.items)
+    opening_right s.opening
     && (sizes_right s.opening.items s.counts s.links s.rows && contents_right s.opening.items s.counts s.links s.rows)
 
 abbrev pub opening_names : List ℕ
