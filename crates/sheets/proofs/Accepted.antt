@@ -1,16 +1,15 @@
 -- An accepted sheet is the text of the junction that was read, which the grid book's check accepts.
-use Rattle.std.proofs.Common.{◌≡◌, ℕ, zero, ◌+◌, ◌^◌, ◌<◌, ◌≤◌, Bool, true, false, not, ◌&&◌, eqb, ltb, leb, ◌⊎◌, List, [], ◌∷◌, ◌++◌, map, length, get_or, Ok, sym, refl, ap, ◌∙◌, subst, inl, inr, append-nil, arith}
+use Rattle.std.proofs.Common.{◌≡◌, ℕ, zero, ◌+◌, ◌^◌, ◌<◌, ◌≤◌, Bool, true, false, not, ◌&&◌, ltb, leb, ◌⊎◌, List, [], ◌∷◌, ◌++◌, map, length, get_or, Ok, sym, refl, ap, ◌∙◌, subst, inl, inr, append-nil, arith}
 use Rattle.std.specs.List.{range_with_len, flat_map}
 use Rattle.std.proofs.lemmas.List.{length-replicate, nil_from_length}
 use Rattle.std.proofs.lemmas.Bool.{and_parts, and_from, cases_lt, cases_eq, cases_order, cases_Bool, cond-true, cond-false, eqb-true, ltb-true, leb-true, lt-ltb, le-leb, eq-eqb}
 use Rattle.std.proofs.lemmas.Bool.Decides.{nat_tests}
 use Rattle.bits.specs.Below.{every}
-use Rattle.bits.specs.Bits.{bit}
 use Rattle.bits.proofs.Belows.{every_i, every_at}
 use Rattle.bits.proofs.Tests.{to_true, of_true}
 use Rattle.bits.proofs.Words.{high_bit, some_bit}
-use Rattle.meaning.specs.Grid.{contents_right, link_bit, link_right, links_right, place, row_right, rows_for, rows_right, same, sizes_right}
-use Rattle.meaning.specs.Limits.{count_right, counts_right}
+use Rattle.meaning.specs.Grid.{contents_right, link_bit, link_right, links_right, row_right, rows_for, rows_right, same, sizes_right}
+use Rattle.meaning.specs.Limits.{counts_right}
 use Rattle.sheets.specs.declared.draft.Draft.{Draft}
 use Rattle.sheets.specs.declared.draft.Opening.{Opening}
 use Rattle.sheets.specs.Fields.{cut}
@@ -60,14 +59,14 @@ sound_lines (x ∷ y ∷ z ∷ ls) c f w o =
 module _ (c : Draft) (h : Drafted c) where
   counts_right_now : counts_right c.opening.items c.counts ≡ true
   counts_right_now =
-      to_true (every c.opening.items (count_right c.counts))
-      (every_i c.opening.items (count_right c.counts) (λ i l. let b = h.counts_in i l in of_true (and_from (leb 1 (get_or c.counts i 0)) (leb (get_or c.counts i 0) 32) (le-leb 1 (get_or c.counts i 0) b.0) (le-leb (get_or c.counts i 0) 32 b.1))))
+      to_true _
+      (every_i _ _ (λ i l. let b = h.counts_in i l in of_true (and_from _ _ (le-leb _ _ b.0) (le-leb _ _ b.1))))
 
   word_in : (i : ℕ) → i < c.opening.items → get_or c.links i 0 < 2 ^ c.opening.items
   word_in i l =
       elim (cases_lt (get_or c.links i 0) (2 ^ c.opening.items)) [
         | inl less ↦ less
-        | inr more ↦ let b = high_bit (get_or c.links i 0) c.opening.items more in absurd (omega (arith, h.linked_in i b.0 (omega (arith, b.1)) (to_true (bit (get_or c.links i 0) b.0) b.2), b.1))
+        | inr more ↦ let b = high_bit (get_or c.links i 0) c.opening.items more in absurd (omega (arith, h.linked_in i b.0 (omega (arith, b.1)) (to_true _ b.2), b.1))
       ]
 
   same_yes : (x y : Bool) → x ≡ y → same x y ≡ true
@@ -76,38 +75,38 @@ module _ (c : Draft) (h : Drafted c) where
 
   link_right_now : (i : ℕ) → i < c.opening.items → link_right c.opening.items c.links i ≡ true
   link_right_now i l =
-      and_from (ltb (get_or c.links i 0) (2 ^ c.opening.items) && not (link_bit c.links i i)) (every c.opening.items (λ j. same (link_bit c.links i j) (link_bit c.links j i)))
-      (and_from (ltb (get_or c.links i 0) (2 ^ c.opening.items)) (not (link_bit c.links i i)) (lt-ltb (get_or c.links i 0) (2 ^ c.opening.items) (word_in i l)) (ap not (h.own i)))
-      (to_true (every c.opening.items (λ j. same (link_bit c.links i j) (link_bit c.links j i)))
-      (every_i c.opening.items (λ j. same (link_bit c.links i j) (link_bit c.links j i)) (λ j k. of_true (same_yes (link_bit c.links i j) (link_bit c.links j i) (h.mutual_links i j)))))
+      and_from _ _
+      (and_from _ _ (lt-ltb _ _ (word_in i l)) (ap not (h.own i)))
+      (to_true _
+      (every_i _ _ (λ j k. of_true (same_yes (link_bit c.links i j) (link_bit c.links j i) (h.mutual_links i j)))))
 
   links_right_now : links_right c.opening.items c.links ≡ true
-  links_right_now = to_true (every c.opening.items (link_right c.opening.items c.links)) (every_i c.opening.items (link_right c.opening.items c.links) (λ i l. of_true (link_right_now i l)))
+  links_right_now = to_true _ (every_i _ _ (λ i l. of_true (link_right_now i l)))
 
   row_right_now : (j i a : ℕ) → j < c.opening.items → i < j → a < 32 → row_right c.counts c.links c.rows j i a ≡ true
   row_right_now j i a l k m =
       elim (cases_Bool (link_bit c.links i j && ltb a (get_or c.counts i 0))) [
         | inl yes' ↦
-            cond-true (link_bit c.links i j && ltb a (get_or c.counts i 0)) (ltb (get_or c.rows (place i a j) 0) (2 ^ get_or c.counts j 0)) (eqb (get_or c.rows (place i a j) 0) 0) yes'
-            ∙ lt-ltb (get_or c.rows (place i a j) 0) (2 ^ get_or c.counts j 0) (h.rows_small i a j k l m)
+            cond-true _ _ _ yes'
+            ∙ lt-ltb _ _ (h.rows_small i a j k l m)
         | inr not' ↦
             let free : (link_bit c.links i j ≡ false) ⊎ (get_or c.counts i 0 ≤ a) =
             elim (cases_Bool (link_bit c.links i j)) [ inl t ↦ inr (grind (arith, nat_tests)) | inr f ↦ inl f ] in
-            cond-false (link_bit c.links i j && ltb a (get_or c.counts i 0)) (ltb (get_or c.rows (place i a j) 0) (2 ^ get_or c.counts j 0)) (eqb (get_or c.rows (place i a j) 0) 0) not'
-            ∙ eq-eqb (get_or c.rows (place i a j) 0) 0 (h.rows_free i a j k l m free)
+            cond-false _ _ _ not'
+            ∙ eq-eqb _ _ (h.rows_free i a j k l m free)
       ]
 
   rows_right_now : rows_right c.opening.items c.counts c.links c.rows ≡ true
   rows_right_now =
-      to_true (rows_right c.opening.items c.counts c.links c.rows)
-      (every_i c.opening.items (λ j. every j (λ i. every 32 (row_right c.counts c.links c.rows j i))) (λ j l.
-      every_i j (λ i. every 32 (row_right c.counts c.links c.rows j i)) (λ i k.
-      every_i 32 (row_right c.counts c.links c.rows j i) (λ a m. of_true (row_right_now j i a l k m)))))
+      to_true _
+      (every_i _ _ (λ j l.
+      every_i _ _ (λ i k.
+      every_i _ _ (λ a m. of_true (row_right_now j i a l k m)))))
 
   contents_now : contents_right c.opening.items c.counts c.links c.rows ≡ true
   contents_now =
-      and_from (counts_right c.opening.items c.counts) (links_right c.opening.items c.links && rows_right c.opening.items c.counts c.links c.rows) counts_right_now
-      (and_from (links_right c.opening.items c.links) (rows_right c.opening.items c.counts c.links c.rows) links_right_now rows_right_now)
+      and_from _ _ counts_right_now
+      (and_from _ _ links_right_now rows_right_now)
 
   links_past : (i : ℕ) → c.opening.items ≤ i → get_or c.links i 0 ≡ 0
   links_past i l =
@@ -115,9 +114,9 @@ module _ (c : Draft) (h : Drafted c) where
         | inl none ↦ none
         | inr more ↦
             let b = some_bit (get_or c.links i 0) more in
-            let t = to_true (bit (get_or c.links i 0) b.0) b.1 in
+            let t = to_true _ b.1 in
             absurd (elim (cases_order i b.0) [
-              | inl e ↦ (let f : link_bit c.links i i ≡ true = ap (λ (k : ℕ). link_bit c.links i k) e ∙ t in let g = h.own i in let z : ◌≡◌ {A = ℕ} 0 1 = cc in omega arith)
+              | inl e ↦ cc (ap (λ (k : ℕ). link_bit c.links i k) e ∙ t, h.own i)
               | inr other ↦ elim other [
                 | inl up ↦ omega (arith, h.linked_in i b.0 up t)
                 | inr down ↦ omega (arith, h.linked_in b.0 i down (h.mutual_links b.0 i ∙ t))
@@ -130,7 +129,7 @@ module _ (c : Draft) (h : Drafted c) where
 
 rows_enough : (n : ℕ) → n ≤ 32 → rows_for n ≤ 15872
 unfolding every
-rows_enough n l = leb-true (rows_for n) 15872 (every_at 33 (λ k. leb (rows_for k) 15872) refl n (omega arith))
+rows_enough n l = leb-true _ _ (every_at 33 (λ k. leb (rows_for k) 15872) refl n (omega arith))
 
 pub right_now : (c : Draft) → Drafted c → is_right (sheet_of c) ≡ true
 right_now c h =
@@ -147,10 +146,10 @@ only_texts b d e =
     let r = then_ok (follow start 1 (cut b).0) (closing (1 + length (cut b).0) (cut b).1) d e in
     let p = cond_in (is_whole r.0 (1 + length (cut b).0) (cut b).1) (Ok r.0) _ d r.2 in
     let is : r.0 ≡ d = let z = p.1 in cc in
-    let q = and_parts (eqb (length (cut b).1) 0) (ltb (4 + r.0.opening.items) (1 + length (cut b).0) && eqb r.0.due.option 0) p.0 in
-    let w = and_parts (ltb (4 + r.0.opening.items) (1 + length (cut b).0)) (eqb r.0.due.option 0) q.1 in
-    let v = sound_lines (cut b).0 r.0 r.1 (ltb-true (4 + r.0.opening.items) (1 + length (cut b).0) w.0) (eqb-true r.0.due.option 0 w.1) in
-    let none : (cut b).1 ≡ [] = nil_from_length (cut b).1 (eqb-true (length (cut b).1) 0 q.0) in
+    let q = and_parts _ _ p.0 in
+    let w = and_parts _ _ q.1 in
+    let v = sound_lines (cut b).0 r.0 r.1 (ltb-true _ _ w.0) (eqb-true _ _ w.1) in
+    let none : (cut b).1 ≡ [] = nil_from_length (cut b).1 (eqb-true _ _ q.0) in
     let text : b ≡ text_of (sheet_of r.0) =
     sym (cut_joins b) ∙ ap (λ (x : List ℕ). flat_map ended (cut b).0 ++ x) none ∙ append-nil (flat_map ended (cut b).0) ∙ ap (flat_map ended) v.text in
     subst (Accepted b) is (record { text = text; right = right_now r.0 v.drafted; blank = blank_now r.0 v.drafted })

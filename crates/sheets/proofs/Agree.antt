@@ -37,24 +37,24 @@ cond_same : (b c : Bool) (x : ℕ) → b ≡ c → cond b x 0 ≡ cond c x 0
 cond_same b c x e = ap (λ (z : Bool). cond z x 0) e
 
 turn_yes : (e : Due) (q : ℕ) → Turn e q → cond (eqb e.option 0) (leb e.pair q) (eqb e.pair q) ≡ true
-turn_yes e q (inl z) = cond-true (eqb e.option 0) (leb e.pair q) (eqb e.pair q) (eq-eqb e.option 0 z.0) ∙ le-leb e.pair q z.1
+turn_yes e q (inl z) = cond-true _ _ _ (eq-eqb _ _ z.0) ∙ le-leb _ _ z.1
 turn_yes e q (inr z) =
     elim (cases_Bool (eqb e.option 0)) [
-      | inl t ↦ cond-true (eqb e.option 0) (leb e.pair q) (eqb e.pair q) t ∙ le-leb e.pair q (omega arith)
-      | inr f ↦ cond-false (eqb e.option 0) (leb e.pair q) (eqb e.pair q) f ∙ eq-eqb e.pair q z
+      | inl t ↦ cond-true _ _ _ t ∙ le-leb _ _ (omega arith)
+      | inr f ↦ cond-false _ _ _ f ∙ eq-eqb _ _ z
     ]
 
 pub accepts : (d : Draft) (k : ℕ) (l : PairLine) → Fits d l → reading.pair d k (Some l) ≡ Ok (with_row d l)
 accepts d k l f =
     let n = d.opening.items in
-    cond-false (ltb l.second d.opening.items && not (eqb (length l.partners) (get_or d.counts l.second 0))) _ _
-    (and_right (ltb l.second d.opening.items) (not (eqb (length l.partners) (get_or d.counts l.second 0))) (ap not (eq-eqb (length l.partners) (get_or d.counts l.second 0) f.long)))
-    ∙ pass (ltb l.first d.opening.items && (ltb l.second d.opening.items && ltb l.option (get_or d.counts l.first 0))) _ _
-    (and_from (ltb l.first d.opening.items) (ltb l.second d.opening.items && ltb l.option (get_or d.counts l.first 0)) (lt-ltb l.first d.opening.items (omega (arith, f.low, f.there)))
-    (and_from (ltb l.second d.opening.items) (ltb l.option (get_or d.counts l.first 0)) (lt-ltb l.second d.opening.items f.there) (lt-ltb l.option (get_or d.counts l.first 0) f.an_option)))
-    ∙ pass (is_turn d.due l) _ _
-    (and_from (ltb l.first l.second) _ (lt-ltb l.first l.second f.low)
-    (and_from (eqb l.option d.due.option) _ (eq-eqb l.option d.due.option f.due) (turn_yes d.due (32 * l.first + l.second) f.turn)))
+    cond-false _ _ _
+    (and_right (ltb l.second d.opening.items) (not (eqb (length l.partners) (get_or d.counts l.second 0))) (ap not (eq-eqb _ _ f.long)))
+    ∙ pass _ _ _
+    (and_from _ _ (lt-ltb _ _ (omega (arith, f.low, f.there)))
+    (and_from _ _ (lt-ltb _ _ f.there) (lt-ltb _ _ f.an_option)))
+    ∙ pass _ _ _
+    (and_from _ _ (lt-ltb _ _ f.low)
+    (and_from _ _ (eq-eqb _ _ f.due) (turn_yes d.due (32 * l.first + l.second) f.turn)))
 
 -- the line of the option a of the pair q, which s gives, at its turn
 module _ (s : Sheet) (ok : is_right s ≡ true) (d : Draft) (q a : ℕ) (g : Agree s d q a)
@@ -69,13 +69,13 @@ module _ (s : Sheet) (ok : is_right s ≡ true) (d : Draft) (q a : ℕ) (g : Agr
   code = omega arith
 
   parts : (ltb i j && ltb j s.opening.items ≡ true) × (link_bit s.links i j ≡ true)
-  parts = and_parts (ltb (first q) (second q) && ltb (second q) s.opening.items) (link_bit s.links (first q) (second q)) there
+  parts = and_parts _ _ there
 
   low : i < j
-  low = ltb-true (first q) (second q) (and_parts (ltb (first q) (second q)) (ltb (second q) s.opening.items) parts.0).0
+  low = ltb-true _ _ (and_parts _ _ parts.0).0
 
   j_in : j < s.opening.items
-  j_in = ltb-true (second q) s.opening.items (and_parts (ltb (first q) (second q)) (ltb (second q) s.opening.items) parts.0).1
+  j_in = ltb-true _ _ (and_parts _ _ parts.0).1
 
   linked : link_bit s.links i j ≡ true
   linked = parts.1
@@ -132,7 +132,7 @@ module _ (s : Sheet) (ok : is_right s ≡ true) (d : Draft) (q a : ℕ) (g : Agr
             let t : link_bit s.links x y ≡ true = (λ v. link_bit s.links (f v) (h v)) ∙ linked in
             grind (arith, nat_tests)
         | inr ne ↦
-            let u : (eqb i x && eqb j y) ≡ false = elim (cases_eq i x) [ inl f ↦ and_right (eqb i x) (eqb j y) (ne_eqb j y (λ h. omega (arith, ne))) | inr f ↦ (let z = ne_eqb i x f in grind (arith, nat_tests)) ] in
+            let u : (eqb i x && eqb j y) ≡ false = elim (cases_eq i x) [ inl f ↦ and_right (eqb i x) (eqb j y) (ne_eqb _ _ (λ h. omega (arith, ne))) | inr f ↦ (let z = ne_eqb _ _ f in grind (arith, nat_tests)) ] in
             grind (arith, nat_tests)
       ]
 
@@ -147,7 +147,7 @@ module _ (s : Sheet) (ok : is_right s ≡ true) (d : Draft) (q a : ℕ) (g : Agr
             ap (λ (v : ℕ). get_or next.rows v 0) e ∙ row_now d g.drafted line fits bits_fine ∙ word in
             let val : row ≡ get_or s.rows (place x b y) 0 = ap (λ (v : ℕ). get_or s.rows v 0) (sym e) in
             let t : given_yet q (a + 1) (32 * x + y) b ≡ true = (let f = z.0 in let f' = z.1 in let f'' = z.2 in grind (arith, nat_tests)) in
-            now' ∙ val ∙ sym (cond-true (given_yet q (a + 1) (32 * x + y) b) (get_or s.rows (place x b y) 0) 0 t)
+            now' ∙ val ∙ sym (cond-true _ _ _ t)
         | inr ne ↦
             let t : given_yet q a (32 * x + y) b ≡ given_yet q (a + 1) (32 * x + y) b =
             elim (cases_eq (32 * x + y) q) [

@@ -1,16 +1,15 @@
 -- The text of a right junction is accepted, and read as that junction.
-use Rattle.std.proofs.Common.{◌≡◌, ℕ, zero, suc, ◌+◌, ◌-◌, ◌*◌, ◌<◌, ◌≤◌, Bool, true, false, cond, ◌&&◌, eqb, ltb, ◌⊎◌, List, [], ◌∷◌, ◌++◌, map, length, get_or, set, Ok, sym, refl, ap, ◌∙◌, subst, inl, inr, arith}
+use Rattle.std.proofs.Common.{◌≡◌, ℕ, zero, suc, ◌+◌, ◌-◌, ◌*◌, ◌<◌, ◌≤◌, Bool, true, false, cond, ◌&&◌, ltb, ◌⊎◌, List, [], ◌∷◌, ◌++◌, map, length, get_or, set, Ok, sym, refl, ap, ◌∙◌, subst, inl, inr, arith}
 use Rattle.std.specs.List.{range_with_len, flat_map}
 use Rattle.std.proofs.lemmas.List.FromFn.{length-map-range_with_len}
 use Rattle.std.proofs.lemmas.List.{get_or-set_same, get_or-set_other}
 use Rattle.std.proofs.lemmas.Bool.{and_from, and_parts, cases_lt, cases_eq, cases_Bool, cond-true, cond-false, eq-eqb, ltb-true, lt-ltb}
 use Rattle.std.proofs.lemmas.Bool.Decides.{nat_tests}
 use Rattle.meaning.specs.Grid.{link_bit, place}
-use Rattle.meaning.specs.Limits.{within}
 use Rattle.sheets.specs.declared.draft.Draft.{Draft}
 use Rattle.sheets.specs.declared.draft.Due.{Due}
 use Rattle.sheets.specs.declared.draft.Opening.{Opening}
-use Rattle.sheets.specs.Texts.{opening_right, all_pair_lines, item_lines, Sheet, first, is_given, item_line, item_names, lines_of, opening_line, opening_names, pair_line, pair_lines, pair_names, is_right, second}
+use Rattle.sheets.specs.Texts.{all_pair_lines, item_lines, Sheet, first, is_given, item_line, item_names, lines_of, opening_line, opening_names, pair_line, pair_lines, pair_names, is_right, second}
 use Rattle.sheets.specs.Reading.{follow, start, step, with_count}
 use Rattle.sheets.specs.Reading as reading
 use Rattle.sheets.proofs.Agree.{Agree, accepted, agree_next, due_last, due_more, given_yet, next}
@@ -77,10 +76,10 @@ module _ (s : Sheet) (ok : is_right s ≡ true) where
               elim (cases_lt b a) [
                 | inl less ↦
                     let u : given_yet q a (32 * x + y) b ≡ true = grind (arith, nat_tests) in
-                    o ∙ cond-true (given_yet q a (32 * x + y) b) (get_or s.rows (place x b y) 0) 0 u ∙ sym (cond-true (given_yet (q + 1) 0 (32 * x + y) b) (get_or s.rows (place x b y) 0) 0 t)
+                    o ∙ cond-true _ _ _ u ∙ sym (cond-true _ _ _ t)
                 | inr more ↦
                     let u : given_yet q a (32 * x + y) b ≡ false = grind (arith, nat_tests) in
-                    o ∙ cond-false (given_yet q a (32 * x + y) b) (get_or s.rows (place x b y) 0) 0 u ∙ sym (none_then more) ∙ sym (cond-true (given_yet (q + 1) 0 (32 * x + y) b) (get_or s.rows (place x b y) 0) 0 t)
+                    o ∙ cond-false _ _ _ u ∙ sym (none_then more) ∙ sym (cond-true _ _ _ t)
               ]
           | inr ne ↦
               let t : given_yet q a (32 * x + y) b ≡ given_yet (q + 1) 0 (32 * x + y) b = grind (arith, nat_tests) in
@@ -115,14 +114,14 @@ module _ (s : Sheet) (ok : is_right s ≡ true) where
         | inl yes' ↦
             let p = (and_parts (ltb (first q) (second q) && ltb (second q) s.opening.items) (link_bit s.links (first q) (second q)) yes').0 in
             let r = and_parts (ltb (first q) (second q)) (ltb (second q) s.opening.items) p in
-            let i_in : first q < s.opening.items = omega (arith, ltb-true (first q) (second q) r.0, ltb-true (second q) s.opening.items r.1) in
+            let i_in : first q < s.opening.items = omega (arith, ltb-true _ _ r.0, ltb-true _ _ r.1) in
             let some : suc (get_or s.counts (first q) 0 - 1) ≡ get_or s.counts (first q) 0 = omega (arith, right.count_least s ok (first q) i_in) in
             subst (λ (ls : List (List ℕ)). Reaches d k ls (Between (q + 1)))
-            (ap (λ (v : ℕ). map (pair_line s q) (range_with_len 0 v)) some ∙ sym (cond-true (is_given s q) (map (pair_line s q) (range_with_len 0 (get_or s.counts (first q) 0))) [] yes'))
+            (ap (λ (v : ℕ). map (pair_line s q) (range_with_len 0 v)) some ∙ sym (cond-true _ _ _ yes'))
             (one_pair (get_or s.counts (first q) 0 - 1) d k q 0 short yes' (omega (arith, some)) b.agree (sym b.none) (inl (b.none, b.low)) l)
         | inr not' ↦
             subst (λ (ls : List (List ℕ)). Reaches d k ls (Between (q + 1)))
-            (sym (cond-false (is_given s q) (map (pair_line s q) (range_with_len 0 (get_or s.counts (first q) 0))) [] not'))
+            (sym (cond-false _ _ _ not'))
             (d, refl, record { agree = agree_on d q 0 short b.agree (inl (refl, not')); none = b.none; low = omega (arith, b.low) })
       ]
 
@@ -144,8 +143,8 @@ module _ (s : Sheet) (ok : is_right s ≡ true) where
       let w = right.count_in s ok i l in
       step_item d (4 + i) (item_line s i) (omega arith) (omega (arith, (ap (λ (o : Opening). o.items) b.opening)))
       ∙ ap (reading.item d (4 + i)) (item_back (record { item = i; options = get_or s.counts i 0 }) (omega (arith, right.items_most s ok)) (omega (arith, right.count_most s ok i l)))
-      ∙ pass (ltb i d.opening.items && within (get_or s.counts i 0) 32) _ _ (and_from (ltb i d.opening.items) (within (get_or s.counts i 0) 32) (lt-ltb i d.opening.items (omega (arith, (ap (λ (o : Opening). o.items) b.opening)))) w)
-      ∙ pass (eqb (4 + i) (4 + i)) _ _ (eq-eqb (4 + i) (4 + i) refl)
+      ∙ pass _ _ _ (and_from _ _ (lt-ltb _ _ (omega (arith, (ap (λ (o : Opening). o.items) b.opening)))) w)
+      ∙ pass _ _ _ (eq-eqb _ _ refl)
 
   item_read : (d : Draft) (i : ℕ) → i < s.opening.items → ReadItems i d → ReadItems (i + 1) (with_count d i (get_or s.counts i 0))
   item_read d i l b = record {
@@ -197,7 +196,7 @@ module _ (s : Sheet) (ok : is_right s ≡ true) where
   opening_accepted : (d : Draft) → step d 2 (opening_line s.opening) ≡ Ok (opened d s.opening)
   opening_accepted d =
       ap (reading.opening d 2) (opening_back s.opening (omega (arith, right.asked_most s ok)) (omega (arith, right.edition_most s ok)) (omega (arith, right.items_most s ok)))
-      ∙ cond-true (opening_right s.opening) _ _ (right.opening_in s ok)
+      ∙ cond-true _ _ _ (right.opening_in s ok)
 
   pub whole_text : Reaches start 1 (lines_of s) (Between 1024)
   whole_text =

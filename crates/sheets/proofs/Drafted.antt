@@ -116,7 +116,7 @@ module _ (d : Draft) (h : Drafted d) (line : PairLine) (fits : Fits d line) (zer
   place_in = let p = pair_within 32 j i j_most fits.low in omega (arith, h.rows_long, a_most)
 
   pub row_now : get_or next.rows (place i a j) 0 ≡ w
-  row_now = get_or-set_same d.rows (place i a j) w 0 place_in
+  row_now = get_or-set_same _ _ _ _ place_in
 
   pub row_other : (k : ℕ) → k ≢ place i a j → get_or next.rows k 0 ≡ get_or d.rows k 0
   row_other k ne = get_or-set_other d.rows (place i a j) k w 0 ne
@@ -222,12 +222,12 @@ module _ (d : Draft) (h : Drafted d) (line : PairLine) (fits : Fits d line) (zer
   lines_same r ne =
       elim (cases_Bool (is_given s r)) [
         | inl yes' ↦
-            cond-true (is_given t r) (map (pair_line t r) (range_with_len 0 (get_or d.counts (first r) 0))) [] (given_same r ne ∙ yes')
-            ∙ map_same (pair_line t r) (pair_line s r) 0 (get_or d.counts (first r) 0) (λ b l k. line_same r b (given_low s r yes') (omega (arith, count_most d h (first r))) (λ e _. ne e))
-            ∙ sym (cond-true (is_given s r) (map (pair_line s r) (range_with_len 0 (get_or d.counts (first r) 0))) [] yes')
+            cond-true _ _ _ (given_same r ne ∙ yes')
+            ∙ map_same _ _ _ _ (λ b l k. line_same r b (given_low s r yes') (omega (arith, count_most d h (first r))) (λ e _. ne e))
+            ∙ sym (cond-true _ _ _ yes')
         | inr not' ↦
-            cond-false (is_given t r) (map (pair_line t r) (range_with_len 0 (get_or d.counts (first r) 0))) [] (given_same r ne ∙ not')
-            ∙ sym (cond-false (is_given s r) (map (pair_line s r) (range_with_len 0 (get_or d.counts (first r) 0))) [] not')
+            cond-false _ _ _ (given_same r ne ∙ not')
+            ∙ sym (cond-false _ _ _ not')
       ]
 
   before_same : flat_map (pair_lines t) (range_with_len 0 q) ≡ flat_map (pair_lines s) (range_with_len 0 q)
@@ -268,7 +268,7 @@ module _ (d : Draft) (h : Drafted d) (line : PairLine) (fits : Fits d line) (zer
         | inr last ↦
             let c : a + 1 ≡ get_or d.counts (first q) 0 = omega (arith, fits.an_option, ap (λ (v : ℕ). get_or d.counts v 0) (first_of i j j_most)) in
             let b : map (pair_line t q) (range_with_len 0 (a + 1)) ≡ pair_lines t q =
-            ap (λ (v : ℕ). map (pair_line t q) (range_with_len 0 v)) c ∙ sym (cond-true (is_given t q) (map (pair_line t q) (range_with_len 0 (get_or d.counts (first q) 0))) [] given_here) in
+            ap (λ (v : ℕ). map (pair_line t q) (range_with_len 0 v)) c ∙ sym (cond-true _ _ _ given_here) in
             one ∙ ap (λ (v : List (List ℕ)). flat_map (pair_lines t) (range_with_len 0 q) ++ v) b ∙ sym (join_next (pair_lines t) q)
             ∙ sym (append-nil (flat_map (pair_lines t) (range_with_len 0 (q + 1)))) ∙ ap (up_to t) (sym (due_next (get_or d.counts i 0) q a last))
       ]

@@ -1,13 +1,11 @@
 -- The line that a refusal names, and how the lines before it can go on.
 -- At k r: where r is a refusal, it names the line k
 -- Viable c k: after the draft c, whose next line is k, a sheet can go on to its end
-use Rattle.std.proofs.Common.{◌≡◌, ℕ, zero, suc, ◌+◌, ◌-◌, ◌*◌, ◌<◌, ◌≤◌, Bool, true, false, cond, not, ◌&&◌, eqb, ltb, ◌⊎◌, List, [], ◌∷◌, length, get_or, take, Some, None, Ok, Err, decimal, Option, Result, sym, refl, ap, ◌∙◌, subst, inl, inr, arith}
-use Rattle.std.specs.Str.{bytes_eq}
+use Rattle.std.proofs.Common.{◌≡◌, ℕ, zero, suc, ◌+◌, ◌-◌, ◌*◌, ◌<◌, ◌≤◌, Bool, true, false, cond, ◌⊎◌, List, [], ◌∷◌, length, get_or, take, Some, None, Ok, Err, decimal, Option, Result, sym, refl, ap, ◌∙◌, subst, inl, inr, arith}
 use Rattle.std.proofs.lemmas.List.FromFn.{length-map-range_with_len}
 use Rattle.std.proofs.lemmas.Bool.{cases_lt, eq-eqb, lt-ltb, and_from}
 use Rattle.bits.specs.Below.{one_if}
 use Rattle.bits.specs.Bits.{bit}
-use Rattle.meaning.specs.Limits.{within}
 use Rattle.meaning.specs.Refusals.{place_of}
 use Rattle.meaning.specs.declared.refusal.Refusal.{Refusal}
 use Rattle.meaning.specs.declared.refusal.Refusal.TheVariants.{Malformed, OutOfLimits, OutOfTurn}
@@ -15,7 +13,7 @@ use Rattle.sheets.specs.declared.draft.Draft.{Draft}
 use Rattle.sheets.specs.declared.draft.Due.{Due}
 use Rattle.sheets.specs.declared.draft.Opening.{Opening}
 use Rattle.sheets.specs.Fields.{ItemLine, PairLine, are_bits, item_of, opening_of, pair_of, partners}
-use Rattle.sheets.specs.Texts.{opening_right, item_names, opening_line, opening_names, pair_names, ◌·◌}
+use Rattle.sheets.specs.Texts.{item_names, opening_line, opening_names, pair_names, ◌·◌}
 use Rattle.sheets.specs.Reading.{follow, start, step, with_count, with_row, ◌>>=◌}
 use Rattle.sheets.specs.Reading as reading
 use Rattle.sheets.proofs.Accepted.{starts}
@@ -40,32 +38,32 @@ at_cond k true x y f g = f
 at_cond k false x y f g = g
 
 at_names : (d : Draft) (k : ℕ) (due l : List ℕ) → At k (reading.names d k due l)
-at_names d k due l = at_cond k (bytes_eq l due) (Ok d) (Err (Malformed k)) (at_ok k d) (at_err k (Malformed k) refl)
+at_names d k due l = at_cond _ _ _ _ (at_ok k d) (at_err k (Malformed k) refl)
 
 at_opening : (d : Draft) (k : ℕ) (f : Option Opening) → At k (reading.opening d k f)
 at_opening d k None = at_err k (Malformed k) refl
-at_opening d k (Some o) = at_cond k (opening_right o) (Ok (opened d o)) (Err (OutOfLimits k)) (at_ok k (opened d o)) (at_err k (OutOfLimits k) refl)
+at_opening d k (Some o) = at_cond _ _ _ _ (at_ok k (opened d o)) (at_err k (OutOfLimits k) refl)
 
 at_item : (d : Draft) (k : ℕ) (f : Option ItemLine) → At k (reading.item d k f)
 at_item d k None = at_err k (Malformed k) refl
 at_item d k (Some l) =
-    at_cond k (not (ltb l.item d.opening.items && within l.options 32)) (Err (OutOfLimits k)) _ (at_err k (OutOfLimits k) refl)
-    (at_cond k (not (eqb (4 + l.item) k)) (Err (OutOfTurn k)) _ (at_err k (OutOfTurn k) refl) (at_ok k (with_count d l.item l.options)))
+    at_cond _ _ _ _ (at_err k (OutOfLimits k) refl)
+    (at_cond _ _ _ _ (at_err k (OutOfTurn k) refl) (at_ok k (with_count d l.item l.options)))
 
 at_pair : (d : Draft) (k : ℕ) (f : Option PairLine) → At k (reading.pair d k f)
 at_pair d k None = at_err k (Malformed k) refl
 at_pair d k (Some l) =
-    at_cond k (ltb l.second d.opening.items && not (eqb (length l.partners) (get_or d.counts l.second 0))) (Err (Malformed k)) _ (at_err k (Malformed k) refl)
-    (at_cond k (not (ltb l.first d.opening.items && (ltb l.second d.opening.items && ltb l.option (get_or d.counts l.first 0)))) (Err (OutOfLimits k)) _ (at_err k (OutOfLimits k) refl)
-    (at_cond k (not (reading.is_turn d.due l)) (Err (OutOfTurn k)) _ (at_err k (OutOfTurn k) refl) (at_ok k (with_row d l))))
+    at_cond _ _ _ _ (at_err k (Malformed k) refl)
+    (at_cond _ _ _ _ (at_err k (OutOfLimits k) refl)
+    (at_cond _ _ _ _ (at_err k (OutOfTurn k) refl) (at_ok k (with_row d l))))
 
 at_step : (d : Draft) (k : ℕ) (l : List ℕ) → At k (step d k l)
 at_step d k l =
-    at_cond k (eqb k 1) (reading.names d k opening_names l) _ (at_names d k opening_names l)
-    (at_cond k (eqb k 2) (reading.opening d k (opening_of l)) _ (at_opening d k (opening_of l))
-    (at_cond k (eqb k 3) (reading.names d k item_names l) _ (at_names d k item_names l)
-    (at_cond k (ltb k (4 + d.opening.items)) (reading.item d k (item_of l)) _ (at_item d k (item_of l))
-    (at_cond k (eqb k (4 + d.opening.items)) (reading.names d k pair_names l) (reading.pair d k (pair_of l)) (at_names d k pair_names l) (at_pair d k (pair_of l))))))
+    at_cond _ _ _ _ (at_names d k opening_names l)
+    (at_cond _ _ _ _ (at_opening d k (opening_of l))
+    (at_cond _ _ _ _ (at_names d k item_names l)
+    (at_cond _ _ _ _ (at_item d k (item_of l))
+    (at_cond _ _ _ _ (at_names d k pair_names l) (at_pair d k (pair_of l))))))
 
 pub then_err : (r : Result Draft Refusal) (f : Draft → Result Draft Refusal) (e : Refusal) → r >>= f ≡ Err e → (r ≡ Err e) ⊎ ((c : Draft) × (r ≡ Ok c) × (f c ≡ Err e))
 then_err (Err x) f e h = inl h
@@ -191,8 +189,8 @@ after_items (suc m) d i k h e f =
     one_more d (with_count d i 1) k (decimal i · decimal 1)
     (step_item d k (decimal i · decimal 1) (omega arith) (omega arith)
     ∙ ap (reading.item d k) (item_back (record { item = i; options = 1 }) (omega (arith, h.items_most)) (omega arith))
-    ∙ pass (ltb i d.opening.items && within 1 32) _ (OutOfLimits k) (and_from (ltb i d.opening.items) (within 1 32) (lt-ltb i d.opening.items (omega arith)) refl)
-    ∙ pass (eqb (4 + i) k) (Ok (with_count d i 1)) (OutOfTurn k) (eq-eqb (4 + i) k (sym f)))
+    ∙ pass _ _ _ (and_from _ _ (lt-ltb _ _ (omega arith)) refl)
+    ∙ pass _ _ _ (eq-eqb _ _ (sym f)))
     (after_items m (with_count d i 1) (i + 1) (k + 1) (items_next d i 1 h (omega arith) refl) (omega arith) (omega arith))
 
 -- from any lines that were accepted
@@ -240,4 +238,4 @@ go_on (x ∷ y ∷ z ∷ ls) c f =
     subst (Viable c) (omega arith) (go_items (opened start q.0) 0 4 ls c (starts q.0 q.2) (omega arith) (omega arith) u.1)
 
 pub closing_line : (k : ℕ) (rest : List ℕ) (d : Draft) (e : Refusal) → reading.closing k rest d ≡ Err e → place_of e ≡ k
-closing_line k rest d e h = at_cond k (reading.is_whole d k rest) (Ok d) (Err (Malformed k)) (at_ok k d) (at_err k (Malformed k) refl) e h
+closing_line k rest d e h = at_cond _ _ _ _ (at_ok k d) (at_err k (Malformed k) refl) e h

@@ -81,4 +81,4 @@ pair_back t h k m b =
     (then_back _ _ _ _ (part_back t.second (decimal t.option · t.partners) k)
     (then_back _ _ _ _ (part_back t.option t.partners m)
     (then_back _ _ _ _ (number_back t.first h) (then_back _ _ _ _ (number_back t.second k) (then_back _ _ _ _ (number_back t.option m)
-    (cond-true (are_bits t.partners) (Some t) None b))))))
+    (cond-true _ _ _ b))))))

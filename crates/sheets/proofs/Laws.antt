@@ -11,7 +11,7 @@ use Rattle.meaning.specs.Grid.{contents_right, grid_check, link_bit, place, size
 use Rattle.meaning.specs.Limits.{limits_right, within}
 use Rattle.meaning.specs.Refusals.{place_of}
 use Rattle.meaning.specs.declared.refusal.Refusal.{Refusal}
-use Rattle.meaning.specs.declared.refusal.Refusal.TheVariants.{Malformed, MemoryShort, OutOfLimits}
+use Rattle.meaning.specs.declared.refusal.Refusal.TheVariants.{MemoryShort, OutOfLimits}
 use Rattle.sheets.specs.declared.draft.Draft.{Draft}
 use Rattle.sheets.specs.declared.draft.Opening.{Opening}
 use Rattle.sheets.specs.Fields.{cut, partners}
@@ -31,7 +31,7 @@ use Rattle.sheets.proofs.Steps.{after_lines}
 
 -- no line has an end inside
 comma_free : (x y : List ℕ) → Free 10 x → Free 10 y → Free 10 (x · y)
-comma_free x y f g = free_append 10 x (44 ∷ y) f ((λ e. omega arith), g)
+comma_free _ _ f g = free_append _ _ _ f ((λ e. omega arith), g)
 
 small_free : (n : ℕ) → n < 10000 → Free 10 (decimal n)
 small_free n h = decimal_free 10 n (omega arith) (omega arith)
@@ -42,7 +42,7 @@ map_free f a (suc n) h = (h a (omega arith) (omega arith), map_free f (a + 1) n 
 
 join_free : (f : ℕ → List (List ℕ)) (a n : ℕ) → ((x : ℕ) → x < a + n → AllFree 10 (f x)) → AllFree 10 (flat_map f (range_with_len a n))
 join_free f a zero h = tt
-join_free f a (suc n) h = all_free_append 10 (f a) (flat_map f (range_with_len (a + 1) n)) (h a (omega arith)) (join_free f (a + 1) n (λ x l. h x (omega arith)))
+join_free f a (suc n) h = all_free_append _ _ _ (h a (omega arith)) (join_free f (a + 1) n (λ x l. h x (omega arith)))
 
 is_free : ℕ → List ℕ → Bool
 is_free sep [] = true
@@ -52,7 +52,7 @@ free_yes : (sep : ℕ) (l : List ℕ) → is_free sep l ≡ true → Free sep l
 unfolding is_free
 free_yes sep [] e = tt
 free_yes sep (b ∷ bs) e =
-    let p = and_parts (not (eqb b sep)) (is_free sep bs) e in
+    let p = and_parts _ _ e in
     (eqb-false b sep (not-true (eqb b sep) p.0), free_yes sep bs p.1)
 
 opening_names_free : Free 10 opening_names
@@ -70,32 +70,32 @@ pair_names_free = free_yes 10 pair_names refl
 module _ (s : Sheet) (ok : is_right s ≡ true) where
   opening_free : Free 10 (opening_line s.opening)
   opening_free =
-      comma_free (decimal s.opening.asked) (decimal s.opening.edition · decimal s.opening.items) (small_free s.opening.asked (omega (arith, right.asked_most s ok)))
-      (comma_free (decimal s.opening.edition) (decimal s.opening.items) (small_free s.opening.edition (omega (arith, right.edition_most s ok))) (small_free s.opening.items (omega (arith, right.items_most s ok))))
+      comma_free _ _ (small_free _ (omega (arith, right.asked_most s ok)))
+      (comma_free _ _ (small_free _ (omega (arith, right.edition_most s ok))) (small_free _ (omega (arith, right.items_most s ok))))
 
   item_free : (i : ℕ) → i < s.opening.items → Free 10 (item_line s i)
-  item_free i l = comma_free (decimal i) (decimal (get_or s.counts i 0)) (small_free i (omega (arith, right.items_most s ok))) (small_free (get_or s.counts i 0) (omega (arith, right.count_most s ok i l)))
+  item_free i l = comma_free _ _ (small_free _ (omega (arith, right.items_most s ok))) (small_free _ (omega (arith, right.count_most s ok i l)))
 
   pair_free : (q a : ℕ) → q < 1024 → a < 32 → Free 10 (pair_line s q a)
   pair_free q a l k =
       let row = get_or s.rows (place (first q) a (second q)) 0 in
-      comma_free (decimal (first q)) _ (small_free (first q) (omega arith))
-      (comma_free (decimal (second q)) _ (small_free (second q) (omega arith))
-      (comma_free (decimal a) _ (small_free a (omega arith)) (partners_free 10 (get_or s.counts (second q) 0) (get_or s.rows (place (first q) a (second q)) 0) (omega arith))))
+      comma_free _ _ (small_free _ (omega arith))
+      (comma_free _ _ (small_free _ (omega arith))
+      (comma_free _ _ (small_free _ (omega arith)) (partners_free 10 (get_or s.counts (second q) 0) (get_or s.rows (place (first q) a (second q)) 0) (omega arith))))
 
   first_in : (q : ℕ) → is_given s q ≡ true → first q < s.opening.items
   first_in q e =
       let p = (and_parts (ltb (first q) (second q) && ltb (second q) s.opening.items) (link_bit s.links (first q) (second q)) e).0 in
       let r = and_parts (ltb (first q) (second q)) (ltb (second q) s.opening.items) p in
-      omega (arith, ltb-true (first q) (second q) r.0, ltb-true (second q) s.opening.items r.1)
+      omega (arith, ltb-true _ _ r.0, ltb-true _ _ r.1)
 
   pairs_free : (q : ℕ) → q < 1024 → AllFree 10 (pair_lines s q)
   pairs_free q l =
       elim (cases_Bool (is_given s q)) [
         | inl yes' ↦
-            subst (AllFree 10) (sym (cond-true (is_given s q) (map (pair_line s q) (range_with_len 0 (get_or s.counts (first q) 0))) [] yes'))
-            (map_free (pair_line s q) 0 (get_or s.counts (first q) 0) (λ a k m. pair_free q a l (omega (arith, right.count_most s ok (first q) (first_in q yes')))))
-        | inr not' ↦ subst (AllFree 10) (sym (cond-false (is_given s q) (map (pair_line s q) (range_with_len 0 (get_or s.counts (first q) 0))) [] not')) tt
+            subst (AllFree 10) (sym (cond-true _ _ _ yes'))
+            (map_free _ _ _ (λ a k m. pair_free q a l (omega (arith, right.count_most s ok (first q) (first_in q yes')))))
+        | inr not' ↦ subst (AllFree 10) (sym (cond-false _ _ _ not')) tt
       ]
 
   lines_free : AllFree 10 (lines_of s)
@@ -105,7 +105,7 @@ module _ (s : Sheet) (ok : is_right s ≡ true) where
       opening_free,
       (
         item_names_free,
-        all_free_append 10 (item_lines s) (pair_names ∷ all_pair_lines s)
+        all_free_append _ _ _
             (map_free (item_line s) 0 s.opening.items (λ i l k. item_free i (omega arith)))
             (pair_names_free, join_free (pair_lines s) 0 1024 (λ q l. pairs_free q (omega arith))),
       ),
@@ -134,11 +134,11 @@ module _ (s : Sheet) (ok : is_right s ≡ true) where
       let c = (whole_text s ok).0 in
       let b = (whole_text s ok).2 in
       let w : is_whole (whole_text s ok).0 (1 + length (lines_of s)) [] ≡ true =
-      and_from (ltb (4 + (whole_text s ok).0.opening.items) (1 + length (lines_of s))) (eqb (whole_text s ok).0.due.option 0)
-      (lt-ltb (4 + (whole_text s ok).0.opening.items) (1 + length (lines_of s)) (subst (λ (o : Opening). 4 + o.items < 1 + length (lines_of s)) b.agree.opening long_enough)) (eq-eqb (whole_text s ok).0.due.option 0 b.none) in
+      and_from _ _
+      (lt-ltb _ _ (subst (λ (o : Opening). 4 + o.items < 1 + length (lines_of s)) b.agree.opening long_enough)) (eq-eqb _ _ b.none) in
       ap (λ (x : List (List ℕ) × List ℕ). follow start 1 x.0 >>= closing (1 + length x.0) x.1) lines_cut
       ∙ ap (λ (x : Result Draft Refusal). x >>= closing (1 + length (lines_of s)) []) (whole_text s ok).1
-      ∙ cond-true (is_whole (whole_text s ok).0 (1 + length (lines_of s)) []) (Ok (whole_text s ok).0) (Err (Malformed (1 + length (lines_of s)))) w
+      ∙ cond-true _ _ _ w
 
   right_reached : is_right (sheet_of reached) ≡ true
   right_reached = right_now reached agrees.agree.drafted
@@ -181,7 +181,7 @@ module _ (s t : Sheet) (ok : is_right s ≡ true) (e : Same s t) where
       elim (cases_Bool (ltb (first q) (second q) && ltb (second q) s.opening.items)) [
         | inl yes' ↦
             let r = and_parts (ltb (first q) (second q)) (ltb (second q) s.opening.items) yes' in
-            let i_in : first q < s.opening.items = omega (arith, ltb-true (first q) (second q) r.0, ltb-true (second q) s.opening.items r.1) in
+            let i_in : first q < s.opening.items = omega (arith, ltb-true _ _ r.0, ltb-true _ _ r.1) in
             λ v. (ltb (first q) (second q) && ltb (second q) (n v)) && bit (e.links (first q) i_in v) (second q)
         | inr not' ↦
             let m : (ltb (first q) (second q) && ltb (second q) t.opening.items) ≡ false = ap (λ (x : ℕ). ltb (first q) (second q) && ltb (second q) x) (sym n) ∙ not' in
@@ -192,24 +192,24 @@ module _ (s t : Sheet) (ok : is_right s ≡ true) (e : Same s t) where
   pairs_same q short =
       elim (cases_Bool (is_given s q)) [
         | inl yes' ↦
-            let p = (and_parts (ltb (first q) (second q) && ltb (second q) s.opening.items) (link_bit s.links (first q) (second q)) yes').0 in
-            let r = and_parts (ltb (first q) (second q)) (ltb (second q) s.opening.items) p in
-            let low = ltb-true (first q) (second q) r.0 in
-            let j_in = ltb-true (second q) s.opening.items r.1 in
+            let p = (and_parts _ _ yes').0 in
+            let r = and_parts _ _ p in
+            let low = ltb-true _ _ r.0 in
+            let j_in = ltb-true _ _ r.1 in
             let i_in : first q < s.opening.items = omega (arith, low, j_in) in
-            cond-true (is_given s q) (map (pair_line s q) (range_with_len 0 (get_or s.counts (first q) 0))) [] yes'
-            ∙ map_same (pair_line s q) (pair_line t q) 0 (get_or s.counts (first q) 0)
+            cond-true _ _ _ yes'
+            ∙ map_same _ _ _ _
             (λ a l k. λ v. decimal (first q) · (decimal (second q) · (decimal a · partners (e.counts (second q) j_in v) (e.rows (first q) a (second q) low j_in (omega (arith, right.count_most s ok (first q) i_in)) v))))
             ∙ ap (λ (x : ℕ). map (pair_line t q) (range_with_len 0 x)) (e.counts (first q) i_in)
-            ∙ sym (cond-true (is_given t q) (map (pair_line t q) (range_with_len 0 (get_or t.counts (first q) 0))) [] (sym (given_same q) ∙ yes'))
+            ∙ sym (cond-true _ _ _ (sym (given_same q) ∙ yes'))
         | inr not' ↦
-            cond-false (is_given s q) (map (pair_line s q) (range_with_len 0 (get_or s.counts (first q) 0))) [] not'
-            ∙ sym (cond-false (is_given t q) (map (pair_line t q) (range_with_len 0 (get_or t.counts (first q) 0))) [] (sym (given_same q) ∙ not'))
+            cond-false _ _ _ not'
+            ∙ sym (cond-false _ _ _ (sym (given_same q) ∙ not'))
       ]
 
   items_same : item_lines s ≡ map (item_line t) (range_with_len 0 t.opening.items)
   items_same =
-      map_same (item_line s) (item_line t) 0 s.opening.items (λ i l k. ap (λ (c : ℕ). decimal i · decimal c) (e.counts i (omega arith)))
+      map_same _ _ _ _ (λ i l k. ap (λ (c : ℕ). decimal i · decimal c) (e.counts i (omega arith)))
       ∙ ap (λ (o : Opening). map (item_line t) (range_with_len 0 o.items)) e.opening
 
   pub text_same : text_of s ≡ text_of t
@@ -281,10 +281,10 @@ text_some (Ok x) false t u room h = absurd cc
 text_some (Ok x) true t u room h =
     elim (cases_Bool (leb (length t) 65536 && leb (length t) room)) [
       | inl yes' ↦
-          let f : ◌≡◌ {A = Result (List ℕ) Refusal} (Ok t) (Ok u) = sym (cond-true (leb (length t) 65536 && leb (length t) room) (Ok t) (Err MemoryShort) yes') ∙ h in
-          (refl, refl, (and_parts (leb (length t) 65536) (leb (length t) room) yes').0, cc)
+          let f : ◌≡◌ {A = Result (List ℕ) Refusal} (Ok t) (Ok u) = sym (cond-true _ _ _ yes') ∙ h in
+          (refl, refl, (and_parts _ _ yes').0, cc)
       | inr not' ↦
-          let f : ◌≡◌ {A = Result (List ℕ) Refusal} (Err MemoryShort) (Ok u) = sym (cond-false (leb (length t) 65536 && leb (length t) room) (Ok t) (Err MemoryShort) not') ∙ h in
+          let f : ◌≡◌ {A = Result (List ℕ) Refusal} (Err MemoryShort) (Ok u) = sym (cond-false _ _ _ not') ∙ h in
           absurd cc
     ]
 
@@ -292,10 +292,10 @@ pub written_back : WrittenBack
 unfolding writing
 written_back asked room p t h counts links rows a b c =
     let w = text_some (grid_check p) (within asked 9999) (text_of (sheet_of_parts asked p)) t room h in
-    let ok : is_right (sheet_of_parts asked p) ≡ true = checked asked p ∙ and_from (within asked 9999) (is_ok (grid_check p)) w.1 w.0 in
+    let ok : is_right (sheet_of_parts asked p) ≡ true = checked asked p ∙ and_from _ _ w.1 w.0 in
     let r = reads_back (sheet_of_parts asked p) ok in
     let roomy : ((leb 32 counts && (leb 32 links && leb 15872 rows)) && leb (length t) 65536) ≡ true =
-    and_from (leb 32 counts && (leb 32 links && leb 15872 rows)) (leb (length t) 65536)
-    (and_from (leb 32 counts) (leb 32 links && leb 15872 rows) (le-leb 32 counts a) (and_from (leb 32 links) (leb 15872 rows) (le-leb 32 links b) (le-leb 15872 rows c)))
+    and_from _ _
+    (and_from _ _ (le-leb _ _ a) (and_from _ _ (le-leb _ _ b) (le-leb _ _ c)))
     (ap (λ (x : List ℕ). leb (length x) 65536) (sym w.3) ∙ w.2) in
-    (r.0, cond-true ((leb 32 counts && (leb 32 links && leb 15872 rows)) && leb (length t) 65536) (reading t) (Err MemoryShort) roomy ∙ ap reading (sym w.3) ∙ r.1, r.2)
+    (r.0, cond-true _ _ _ roomy ∙ ap reading (sym w.3) ∙ r.1, r.2)

@@ -47,7 +47,7 @@ all_pairs c h o =
     let s = sheet_of c in
     let m : c.due.pair + (1024 - c.due.pair) ≡ 1024 = omega (arith, h.pair_most) in
     ap (λ (v : ℕ). up_to (sheet_of c) (record { pair = c.due.pair; option = v })) o ∙ append-nil (flat_map (pair_lines (sheet_of c)) (range_with_len 0 c.due.pair))
-    ∙ sym (join_skip (pair_lines (sheet_of c)) c.due.pair (1024 - c.due.pair) (λ r k l. skipped c h o r k))
+    ∙ sym (join_skip _ _ _ (λ r k l. skipped c h o r k))
     ∙ ap (λ (v : ℕ). flat_map (pair_lines (sheet_of c)) (range_with_len 0 v)) m
 
 pub record Items (d : Draft) (i : ℕ) : Type 0 where

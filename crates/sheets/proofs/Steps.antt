@@ -1,14 +1,12 @@
 -- What a line was where it was accepted.
 -- Turn e q: the pair q may come, where e is due
 -- Fits d l: the pair line l may come after d
-use Rattle.std.proofs.Common.{◌≡◌, ℕ, ◌+◌, ◌*◌, ◌<◌, ◌≤◌, Bool, true, false, cond, not, ◌&&◌, eqb, ltb, leb, ◌⊎◌, List, [], ◌∷◌, ◌++◌, length, get_or, Some, None, Ok, Err, Option, decimal, Result, sym, refl, ap, ◌∙◌, inl, inr, arith}
-use Rattle.std.specs.Str.{bytes_eq}
+use Rattle.std.proofs.Common.{◌≡◌, ℕ, ◌+◌, ◌*◌, ◌<◌, ◌≤◌, Bool, true, false, cond, not, eqb, leb, ◌⊎◌, List, [], ◌∷◌, ◌++◌, length, get_or, Some, None, Ok, Err, Option, decimal, Result, sym, refl, ap, ◌∙◌, inl, inr, arith}
 use Rattle.std.proofs.lemmas.Slice.Eq.{bytes_eq-Decides}
 use Rattle.std.proofs.lemmas.Bool.{not_from_true, and_parts, cases_Bool, cond-true, cond-false, eqb-true, leb-true, ltb-true, lt-ltb, le-ltb}
 use Rattle.std.proofs.lemmas.Bool.Decides.{nat_tests}
 use Rattle.meaning.specs.Limits.{within}
 use Rattle.meaning.specs.declared.refusal.Refusal.{Refusal}
-use Rattle.meaning.specs.declared.refusal.Refusal.TheVariants.{Malformed}
 use Rattle.sheets.specs.declared.draft.Draft.{Draft}
 use Rattle.sheets.specs.declared.draft.Due.{Due}
 use Rattle.sheets.specs.declared.draft.Opening.{Opening}
@@ -42,11 +40,11 @@ then_ok (Ok c) f d h = (c, refl, h)
 
 names_ok : (d : Draft) (k : ℕ) (due l : List ℕ) (c : Draft) → reading.names d k due l ≡ Ok c → (l ≡ due) × (d ≡ c)
 names_ok d k due l c e =
-    let p = cond_in (bytes_eq l due) (Ok d) _ c e in
+    let p = cond_in _ _ _ _ e in
     ((bytes_eq-Decides l due).0 p.0, ok_same d c p.1)
 
 pub names_back : (d : Draft) (k : ℕ) (due : List ℕ) → reading.names d k due due ≡ Ok d
-names_back d k due = cond-true (bytes_eq due due) (Ok d) (Err (Malformed k)) ((bytes_eq-Decides due due).1 refl)
+names_back d k due = cond-true _ _ _ ((bytes_eq-Decides due due).1 refl)
 
 abbrev pub opened : Draft → Opening → Draft
 opened d o = record d { opening = o }
@@ -55,16 +53,16 @@ opening_ok : (d : Draft) (k : ℕ) (f : Option Opening) (c : Draft) → reading.
     → (o : Opening) × (f ≡ Some o) × (opening_right o ≡ true) × (opened d o ≡ c)
 opening_ok d k None c e = absurd cc
 opening_ok d k (Some o) c e =
-    let p = cond_in (opening_right o) (Ok (opened d o)) _ c e in
+    let p = cond_in _ _ _ _ e in
     (o, refl, p.0, ok_same (opened d o) c p.1)
 
 item_ok : (d : Draft) (k : ℕ) (f : Option ItemLine) (c : Draft) → reading.item d k f ≡ Ok c
     → (l : ItemLine) × (f ≡ Some l) × (within l.options 32 ≡ true) × (4 + l.item ≡ k) × (with_count d l.item l.options ≡ c)
 item_ok d k None c e = absurd cc
 item_ok d k (Some l) c e =
-    let p = passed (ltb l.item d.opening.items && within l.options 32) _ _ c e in
-    let q = passed (eqb (4 + l.item) k) _ _ c p.1 in
-    (l, refl, (and_parts (ltb l.item d.opening.items) (within l.options 32) p.0).1, eqb-true (4 + l.item) k q.0, ok_same (with_count d l.item l.options) c q.1)
+    let p = passed _ _ _ _ e in
+    let q = passed _ _ _ _ p.1 in
+    (l, refl, (and_parts _ _ p.0).1, eqb-true _ _ q.0, ok_same (with_count d l.item l.options) c q.1)
 
 abbrev pub Turn : Due → ℕ → Type 0
 Turn e q = ((e.option ≡ 0) × (e.pair ≤ q)) ⊎ (e.pair ≡ q)
@@ -80,8 +78,8 @@ pub record Fits (d : Draft) (l : PairLine) : Type 0 where
 in_turn : (e : Due) (q : ℕ) → cond (eqb e.option 0) (leb e.pair q) (eqb e.pair q) ≡ true → Turn e q
 in_turn e q t =
     elim (cases_Bool (eqb e.option 0)) [
-      | inl z ↦ inl (eqb-true e.option 0 z, leb-true e.pair q (sym (cond-true (eqb e.option 0) (leb e.pair q) (eqb e.pair q) z) ∙ t))
-      | inr z ↦ inr (eqb-true e.pair q (sym (cond-false (eqb e.option 0) (leb e.pair q) (eqb e.pair q) z) ∙ t))
+      | inl z ↦ inl (eqb-true _ _ z, leb-true _ _ (sym (cond-true _ _ _ z) ∙ t))
+      | inr z ↦ inr (eqb-true _ _ (sym (cond-false _ _ _ z) ∙ t))
     ]
 
 pair_ok : (d : Draft) (k : ℕ) (f : Option PairLine) (c : Draft) → reading.pair d k f ≡ Ok c → (l : PairLine) × (f ≡ Some l) × Fits d l × (with_row d l ≡ c)
@@ -89,21 +87,21 @@ pair_ok d k None c e = absurd cc
 pair_ok d k (Some l) c e =
     let n = d.opening.items in
     let q = 32 * l.first + l.second in
-    let p = cond_out (ltb l.second d.opening.items && not (eqb (length l.partners) (get_or d.counts l.second 0))) _ _ c e in
-    let r = passed (ltb l.first d.opening.items && (ltb l.second d.opening.items && ltb l.option (get_or d.counts l.first 0))) _ _ c p.1 in
-    let s = passed (is_turn d.due l) _ _ c r.1 in
-    let x = and_parts (ltb l.first d.opening.items) (ltb l.second d.opening.items && ltb l.option (get_or d.counts l.first 0)) r.0 in
-    let y = and_parts (ltb l.second d.opening.items) (ltb l.option (get_or d.counts l.first 0)) x.1 in
-    let t = and_parts (ltb l.first l.second) _ s.0 in
-    let u = and_parts (eqb l.option d.due.option) _ t.1 in (
+    let p = cond_out _ _ _ _ e in
+    let r = passed _ _ _ _ p.1 in
+    let s = passed _ _ _ _ r.1 in
+    let x = and_parts _ _ r.0 in
+    let y = and_parts _ _ x.1 in
+    let t = and_parts _ _ s.0 in
+    let u = and_parts _ _ t.1 in (
       l,
       refl,
       record {
-        low = ltb-true l.first l.second t.0;
-        there = ltb-true l.second d.opening.items y.0;
-        an_option = ltb-true l.option (get_or d.counts l.first 0) y.1;
-        long = (let a = p.0 in let b = y.0 in eqb-true (length l.partners) (get_or d.counts l.second 0) (grind (arith, nat_tests)));
-        due = eqb-true l.option d.due.option u.0;
+        low = ltb-true _ _ t.0;
+        there = ltb-true _ _ y.0;
+        an_option = ltb-true _ _ y.1;
+        long = (let a = p.0 in let b = y.0 in eqb-true _ _ (grind (arith, nat_tests)));
+        due = eqb-true _ _ u.0;
         turn = in_turn d.due (32 * l.first + l.second) u.1;
       },
       ok_same (with_row d l) c s.1,
@@ -111,10 +109,10 @@ pair_ok d k (Some l) c e =
 
 -- what is due after an option
 pub due_same : (n q a : ℕ) → a + 1 < n → due_after n q a ≡ record { pair = q; option = a + 1 }
-due_same n q a l = cond-true (ltb (a + 1) n) _ _ (lt-ltb (a + 1) n l)
+due_same n q a l = cond-true _ _ _ (lt-ltb _ _ l)
 
 pub due_next : (n q a : ℕ) → n ≤ a + 1 → due_after n q a ≡ record { pair = q + 1; option = 0 }
-due_next n q a l = cond-false (ltb (a + 1) n) _ _ (le-ltb (a + 1) n l)
+due_next n q a l = cond-false _ _ _ (le-ltb (a + 1) n l)
 
 -- which form is due at a line
 pub step_item : (d : Draft) (k : ℕ) (l : List ℕ) → 4 ≤ k → k < 4 + d.opening.items → step d k l ≡ reading.item d k (item_of l)
