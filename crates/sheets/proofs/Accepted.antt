@@ -8,7 +8,7 @@ use Rattle.bits.specs.Below.{every}
 use Rattle.bits.proofs.Belows.{every_i, every_at}
 use Rattle.bits.proofs.Tests.{to_true, of_true}
 use Rattle.bits.proofs.Words.{high_bit, some_bit}
-use Rattle.meaning.specs.Grid.{contents_right, link_bit, link_right, links_right, row_right, rows_for, rows_right, same, sizes_right}
+use Rattle.meaning.specs.Grid.{contents_right, link_bit, link_right, links_right, row_right, rows_for, rows_right, same}
 use Rattle.meaning.specs.Limits.{counts_right}
 use Rattle.sheets.specs.declared.draft.Draft.{Draft}
 use Rattle.sheets.specs.declared.draft.Opening.{Opening}
@@ -114,7 +114,7 @@ module _ (c : Draft) (h : Drafted c) where
         | inl none ↦ none
         | inr more ↦
             let b = some_bit (get_or c.links i 0) more in
-            let t = to_true _ b.1 in
+            let t : link_bit c.links i b.0 ≡ true = to_true _ b.1 in
             absurd (elim (cases_order i b.0) [
               | inl e ↦ cc (ap (λ (k : ℕ). link_bit c.links i k) e ∙ t, h.own i)
               | inr other ↦ elim other [
@@ -133,11 +133,10 @@ rows_enough n l = leb-true _ _ (every_at 33 (λ k. leb (rows_for k) 15872) refl 
 
 pub right_now : (c : Draft) → Drafted c → is_right (sheet_of c) ≡ true
 right_now c h =
-    and_from (opening_right c.opening) (sizes_right c.opening.items c.counts c.links c.rows && contents_right c.opening.items c.counts c.links c.rows)
-    h.opening_in
-    (and_from (sizes_right c.opening.items c.counts c.links c.rows) (contents_right c.opening.items c.counts c.links c.rows)
-    (and_from (leb c.opening.items (length c.counts) && leb c.opening.items (length c.links)) (leb (rows_for c.opening.items) (length c.rows))
-    (and_from (leb c.opening.items (length c.counts)) (leb c.opening.items (length c.links)) (le-leb c.opening.items (length c.counts) (omega (arith, h.items_most, h.counts_long))) (le-leb c.opening.items (length c.links) (omega (arith, h.items_most, h.links_long))))
+    and_from _ _ h.opening_in
+    (and_from _ _
+    (and_from _ _
+    (and_from _ _ (le-leb c.opening.items (length c.counts) (omega (arith, h.items_most, h.counts_long))) (le-leb c.opening.items (length c.links) (omega (arith, h.items_most, h.links_long))))
     (le-leb (rows_for c.opening.items) (length c.rows) (subst (λ (n : ℕ). rows_for c.opening.items ≤ n) (sym h.rows_long) (rows_enough c.opening.items h.items_most))))
     (contents_now c h))
 

@@ -3,7 +3,7 @@
 -- Agree s d q a: the draft d has what the pair lines of s before the option a of the pair q give
 use Rattle.std.proofs.Common.{◌≡◌, ℕ, ◌+◌, ◌*◌, ◌<◌, Bool, true, false, cond, not, ◌&&◌, ◌||◌, eqb, ltb, leb, List, length, get_or, Some, Ok, sym, ap, ◌∙◌, subst, inl, inr, arith}
 use Rattle.std.proofs.lemmas.List.FromFn.{length-map-range_with_len}
-use Rattle.std.proofs.lemmas.Bool.{and_from, and_parts, and_right, cases_eq, cases_Bool, cond-true, cond-false, eq-eqb, ne_eqb, ltb-true, lt-ltb, le-leb}
+use Rattle.std.proofs.lemmas.Bool.{and_from, and_right, cases_eq, cases_Bool, cond-true, cond-false, eq-eqb, ne_eqb, lt-ltb, le-leb}
 use Rattle.std.proofs.lemmas.Bool.Decides.{nat_tests}
 use Rattle.bits.specs.Below.{one_if}
 use Rattle.bits.specs.Bits.{bit}
@@ -15,10 +15,11 @@ use Rattle.sheets.specs.Fields.{PairLine, are_bits, partners, word_of}
 use Rattle.sheets.specs.Texts.{Sheet, first, is_given, pair_line, is_right, second}
 use Rattle.sheets.specs.Reading.{step, is_turn, with_row}
 use Rattle.sheets.specs.Reading as reading
-use Rattle.sheets.proofs.Drafted.{Drafted, drafted_next, links_now, row_now, row_other}
+use Rattle.sheets.proofs.Drafted.{Drafted}
+use Rattle.sheets.proofs.Next.{drafted_next, links_now, row_now, row_other}
 use Rattle.sheets.proofs.Forms.{pair_back}
 use Rattle.sheets.proofs.Partners.{bits_back, word_back}
-use Rattle.sheets.proofs.Places.{place_apart}
+use Rattle.sheets.proofs.Places.{place_apart, Given, given_parts, whole_pair}
 use Rattle.sheets.proofs.Right as right
 use Rattle.sheets.proofs.Steps.{Fits, Turn, due_next, due_same, pass, step_pair}
 
@@ -46,7 +47,6 @@ turn_yes e q (inr z) =
 
 pub accepts : (d : Draft) (k : ℕ) (l : PairLine) → Fits d l → reading.pair d k (Some l) ≡ Ok (with_row d l)
 accepts d k l f =
-    let n = d.opening.items in
     cond-false _ _ _
     (and_right (ltb l.second d.opening.items) (not (eqb (length l.partners) (get_or d.counts l.second 0))) (ap not (eq-eqb _ _ f.long)))
     ∙ pass _ _ _
@@ -56,29 +56,31 @@ accepts d k l f =
     (and_from _ _ (lt-ltb _ _ f.low)
     (and_from _ _ (eq-eqb _ _ f.due) (turn_yes d.due (32 * l.first + l.second) f.turn)))
 
--- the line of the option a of the pair q, which s gives, at its turn
-module _ (s : Sheet) (ok : is_right s ≡ true) (d : Draft) (q a : ℕ) (g : Agree s d q a)
-    (there : is_given s q ≡ true) (short : q < 1024) (an_option : a < get_or s.counts (first q) 0) (due : a ≡ d.due.option) (turn : Turn d.due q) where
+-- the option a of the pair q, which s gives, is due
+pub record AtTurn (s : Sheet) (d : Draft) (q a : ℕ) : Type 0 where
+  pub agree : Agree s d q a
+  pub given : is_given s q ≡ true
+  pub short : q < 1024
+  pub an_option : a < get_or s.counts (first q) 0
+  pub due : a ≡ d.due.option
+  pub turn : Turn d.due q
+
+-- its line is accepted
+module _ (s : Sheet) (ok : is_right s ≡ true) (d : Draft) (q a : ℕ) (t : AtTurn s d q a) where
   abbrev i : ℕ
   i = first q
 
   abbrev j : ℕ
   j = second q
 
-  code : 32 * i + j ≡ q
-  code = omega arith
+  abbrev g : Agree s d q a
+  g = t.agree
 
-  parts : (ltb i j && ltb j s.opening.items ≡ true) × (link_bit s.links i j ≡ true)
-  parts = and_parts _ _ there
+  p : Given s q
+  p = given_parts s q t.given
 
-  low : i < j
-  low = ltb-true _ _ (and_parts _ _ parts.0).0
-
-  j_in : j < s.opening.items
-  j_in = ltb-true _ _ (and_parts _ _ parts.0).1
-
-  linked : link_bit s.links i j ≡ true
-  linked = parts.1
+  i_in : i < s.opening.items
+  i_in = omega (arith, p.low, p.there)
 
   abbrev row : ℕ
   row = get_or s.rows (place i a j) 0
@@ -87,25 +89,26 @@ module _ (s : Sheet) (ok : is_right s ≡ true) (d : Draft) (q a : ℕ) (g : Agr
   bs = partners (get_or s.counts j 0) row
 
   a_most : a < 32
-  a_most = omega (arith, right.count_most s ok i (omega (arith, low, j_in)))
+  a_most = omega (arith, t.an_option, right.count_most s ok i i_in)
 
   long : length bs ≡ get_or d.counts j 0
-  long = length-map-range_with_len (λ b. 48 + one_if (bit row b)) 0 (get_or s.counts j 0) ∙ g.counts j j_in
+  long = length-map-range_with_len (λ b. 48 + one_if (bit row b)) 0 (get_or s.counts j 0) ∙ g.counts j p.there
 
   word : word_of bs ≡ row
-  word = word_back (get_or s.counts j 0) row (right.row_small s ok i a j low j_in a_most linked an_option)
-
-  j_there : j < d.opening.items
-  j_there = subst (λ (o : Opening). j < o.items) g.opening j_in
-
-  option_there : a < get_or d.counts i 0
-  option_there = subst (λ (n : ℕ). a < n) (g.counts i (omega (arith, low, j_in))) an_option
+  word = word_back (get_or s.counts j 0) row (right.row_small s ok i a j p.low p.there a_most p.linked t.an_option)
 
   abbrev pub line : PairLine
   line = record { first = i; second = j; option = a; partners = bs }
 
   fits : Fits d line
-  fits = record { low = low; there = j_there; an_option = option_there; long = long; due = due; turn = subst (Turn d.due) (sym code) turn }
+  fits = record {
+    low = p.low;
+    there = subst (λ (o : Opening). j < o.items) g.opening p.there;
+    an_option = subst (λ (n : ℕ). a < n) (g.counts i i_in) t.an_option;
+    long = long;
+    due = t.due;
+    turn = subst (Turn d.due) (sym (whole_pair q)) t.turn;
+  }
 
   abbrev pub next : Draft
   next = with_row d line
@@ -123,13 +126,13 @@ module _ (s : Sheet) (ok : is_right s ≡ true) (d : Draft) (q a : ℕ) (g : Agr
   links_next x y l k =
       let n = links_now d g.drafted line fits bits_fine x y in
       let o = g.links x y l k in
-      let c = code in
+      let c = whole_pair q in
       let m : y < 32 = omega (arith, right.items_most s ok) in
       elim (cases_eq (32 * x + y) q) [
         | inl e ↦
             let f : x ≡ i = omega arith in
             let h : y ≡ j = omega arith in
-            let t : link_bit s.links x y ≡ true = (λ v. link_bit s.links (f v) (h v)) ∙ linked in
+            let t' : link_bit s.links x y ≡ true = (λ v. link_bit s.links (f v) (h v)) ∙ p.linked in
             grind (arith, nat_tests)
         | inr ne ↦
             let u : (eqb i x && eqb j y) ≡ false = elim (cases_eq i x) [ inl f ↦ and_right (eqb i x) (eqb j y) (ne_eqb _ _ (λ h. omega (arith, ne))) | inr f ↦ (let z = ne_eqb _ _ f in grind (arith, nat_tests)) ] in
@@ -138,18 +141,18 @@ module _ (s : Sheet) (ok : is_right s ≡ true) (d : Draft) (q a : ℕ) (g : Agr
 
   rows_next : (x b y : ℕ) → x < y → y < s.opening.items → b < 32 → get_or next.rows (place x b y) 0 ≡ cond (given_yet q (a + 1) (32 * x + y) b) (get_or s.rows (place x b y) 0) 0
   rows_next x b y l k m =
-      let c = code in
+      let c = whole_pair q in
       let most : y < 32 = omega (arith, right.items_most s ok) in
       elim (cases_eq (place x b y) (place i a j)) [
         | inl e ↦
-            let z = place_apart x b y i a j l low m a_most e in
+            let z = place_apart x b y i a j l p.low m a_most e in
             let now' : get_or next.rows (place x b y) 0 ≡ row =
             ap (λ (v : ℕ). get_or next.rows v 0) e ∙ row_now d g.drafted line fits bits_fine ∙ word in
             let val : row ≡ get_or s.rows (place x b y) 0 = ap (λ (v : ℕ). get_or s.rows v 0) (sym e) in
-            let t : given_yet q (a + 1) (32 * x + y) b ≡ true = (let f = z.0 in let f' = z.1 in let f'' = z.2 in grind (arith, nat_tests)) in
-            now' ∙ val ∙ sym (cond-true _ _ _ t)
+            let t' : given_yet q (a + 1) (32 * x + y) b ≡ true = (let f = z.0 in let f' = z.1 in let f'' = z.2 in grind (arith, nat_tests)) in
+            now' ∙ val ∙ sym (cond-true _ _ _ t')
         | inr ne ↦
-            let t : given_yet q a (32 * x + y) b ≡ given_yet q (a + 1) (32 * x + y) b =
+            let t' : given_yet q a (32 * x + y) b ≡ given_yet q (a + 1) (32 * x + y) b =
             elim (cases_eq (32 * x + y) q) [
               | inl f ↦
                   let fx : x ≡ i = omega arith in
@@ -159,7 +162,7 @@ module _ (s : Sheet) (ok : is_right s ≡ true) (d : Draft) (q a : ℕ) (g : Agr
               | inr f ↦ grind (arith, nat_tests)
             ] in
             row_other d g.drafted line fits bits_fine (place x b y) ne
-            ∙ g.rows x b y l k m ∙ cond_same (given_yet q a (32 * x + y) b) (given_yet q (a + 1) (32 * x + y) b) (get_or s.rows (place x b y) 0) t
+            ∙ g.rows x b y l k m ∙ cond_same (given_yet q a (32 * x + y) b) (given_yet q (a + 1) (32 * x + y) b) (get_or s.rows (place x b y) 0) t'
       ]
 
   pub agree_next : Agree s next q (a + 1)
@@ -172,10 +175,10 @@ module _ (s : Sheet) (ok : is_right s ≡ true) (d : Draft) (q a : ℕ) (g : Agr
   }
 
   count_same : get_or d.counts i 0 ≡ get_or s.counts i 0
-  count_same = sym (g.counts i (omega (arith, low, j_in)))
+  count_same = sym (g.counts i i_in)
 
   pub due_more : a + 1 < get_or s.counts (first q) 0 → next.due ≡ record { pair = q; option = a + 1 }
-  due_more l = due_same (get_or d.counts i 0) (32 * i + j) a (omega (arith, count_same)) ∙ (λ n. record { pair = code n; option = a + 1 })
+  due_more l = due_same (get_or d.counts i 0) (32 * i + j) a (omega (arith, count_same)) ∙ (λ n. record { pair = whole_pair q n; option = a + 1 })
 
   pub due_last : a + 1 ≡ get_or s.counts (first q) 0 → next.due ≡ record { pair = q + 1; option = 0 }
-  due_last l = due_next (get_or d.counts i 0) (32 * i + j) a (omega (arith, count_same)) ∙ (λ n. record { pair = code n + 1; option = 0 })
+  due_last l = due_next (get_or d.counts i 0) (32 * i + j) a (omega (arith, count_same)) ∙ (λ n. record { pair = whole_pair q n + 1; option = 0 })

@@ -10,7 +10,6 @@ use Rattle.meaning.specs.Refusals.{place_of}
 use Rattle.meaning.specs.declared.refusal.Refusal.{Refusal}
 use Rattle.meaning.specs.declared.refusal.Refusal.TheVariants.{Malformed, OutOfLimits, OutOfTurn}
 use Rattle.sheets.specs.declared.draft.Draft.{Draft}
-use Rattle.sheets.specs.declared.draft.Due.{Due}
 use Rattle.sheets.specs.declared.draft.Opening.{Opening}
 use Rattle.sheets.specs.Fields.{ItemLine, PairLine, are_bits, item_of, opening_of, pair_of, partners}
 use Rattle.sheets.specs.Texts.{item_names, opening_line, opening_names, pair_names, ◌·◌}
@@ -18,11 +17,12 @@ use Rattle.sheets.specs.Reading.{follow, start, step, with_count, with_row, ◌>
 use Rattle.sheets.specs.Reading as reading
 use Rattle.sheets.proofs.Accepted.{starts}
 use Rattle.sheets.proofs.Agree.{accepts}
-use Rattle.sheets.proofs.Drafted.{Begun, Drafted, count_most, drafted_next}
+use Rattle.sheets.proofs.Drafted.{Begun, Drafted, count_most}
+use Rattle.sheets.proofs.Next.{drafted_next}
 use Rattle.sheets.proofs.Forms.{item_back, opening_back, pair_back, pair_text}
 use Rattle.sheets.proofs.Partners.{bits_back}
 use Rattle.sheets.proofs.Sound.{Items, drafted_first, items_next}
-use Rattle.sheets.proofs.Steps.{Fits, after_line, due_next, due_same, item_step, names_back, names_step, ok_same, opened, opening_step, pair_step, pass, step_item, step_names, step_pair}
+use Rattle.sheets.proofs.Steps.{Fits, after_line, due_next, due_same, item_step, names_back, names_step, ok_same, opened, opening_step, pair_step, pass, step_item, step_names, step_pair, same_pair, same_option}
 
 abbrev At : ℕ → Result Draft Refusal → Type 0
 At k r = (e : Refusal) → r ≡ Err e → place_of e ≡ k
@@ -156,9 +156,9 @@ module _ (d : Draft) (k : ℕ) (h : Drafted d) (b : Begun d) (l : 4 + d.opening.
       elim (cases_lt (d.due.option + 1) (get_or d.counts b.i 0)) [
         | inl more' ↦
             let e = due_same (get_or d.counts b.i 0) (32 * b.i + b.j) d.due.option more' in
-            let same : c.i ≡ b.i = omega (arith, c.is, ap (λ (e : Due). e.pair) e, c.there, b.there, h.items_most) in
-            (ap (λ (e : Due). e.option) e, ap (λ (x : ℕ). get_or d.counts x 0) same)
-        | inr last' ↦ absurd (omega (arith, ap (λ (e : Due). e.option) (due_next (get_or d.counts b.i 0) (32 * b.i + b.j) d.due.option last')))
+            let same : c.i ≡ b.i = omega (arith, c.is, same_pair e, c.there, b.there, h.items_most) in
+            (same_option e, ap (λ (x : ℕ). get_or d.counts x 0) same)
+        | inr last' ↦ absurd (omega (arith, same_option (due_next (get_or d.counts b.i 0) (32 * b.i + b.j) d.due.option last')))
       ]
 
 viable_pairs : (m : ℕ) (d : Draft) (k : ℕ) → Drafted d → (0 < d.due.option → (b : Begun d) → get_or d.counts b.i 0 ≤ d.due.option + m) → 4 + d.opening.items < k → Viable d k

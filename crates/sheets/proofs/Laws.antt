@@ -1,10 +1,10 @@
 -- The laws of sheets.
-use Rattle.std.proofs.Common.{◌≡◌, ℕ, zero, suc, ◌+◌, ◌-◌, ◌*◌, ◌^◌, ◌<◌, ◌≤◌, Bool, true, false, cond, not, ◌&&◌, eqb, ltb, leb, List, [], ◌∷◌, ◌++◌, map, length, get_or, take, is_ok, Ok, Err, decimal, Result, sym, refl, ap, ◌∙◌, subst, inl, inr, arith}
+use Rattle.std.proofs.Common.{◌≡◌, ℕ, suc, ◌+◌, ◌-◌, ◌*◌, ◌^◌, ◌<◌, Bool, true, false, cond, ◌&&◌, ltb, leb, List, [], ◌∷◌, ◌++◌, map, length, get_or, take, is_ok, Ok, Err, decimal, Result, sym, refl, ap, ◌∙◌, subst, inl, inr, arith}
 use Rattle.std.specs.Result.{result_and}
 use Rattle.std.specs.List.{range_with_len, flat_map}
 use Rattle.std.proofs.lemmas.List.{length-append, take_all}
 use Rattle.std.proofs.lemmas.List.FromFn.{length-map-range_with_len}
-use Rattle.std.proofs.lemmas.Bool.{and_from, and_parts, cases_order, cases_Bool, cond-true, cond-false, eq-eqb, eqb-false, ltb-true, lt-ltb, le-leb, not-true}
+use Rattle.std.proofs.lemmas.Bool.{and_from, and_parts, cases_order, cases_Bool, cond-true, cond-false, eq-eqb, ltb-true, lt-ltb, le-leb}
 use Rattle.std.proofs.lemmas.Bool.Decides.{nat_tests}
 use Rattle.bits.specs.Bits.{bit}
 use Rattle.meaning.specs.Grid.{contents_right, grid_check, link_bit, place, sizes_right}
@@ -22,99 +22,15 @@ use Rattle.sheets.specs.Law.{Checked, Faults, OnlyOne, ReadsBack, WrittenBack}
 use Rattle.sheets.proofs.Accepted.{only_texts, right_now, sound_lines}
 use Rattle.sheets.proofs.Agree.{given_yet}
 use Rattle.sheets.proofs.Complete.{Between, whole_text}
-use Rattle.sheets.proofs.Cutting.{AllFree, Free, all_free_append, cut_ended, decimal_free, free_append}
 use Rattle.sheets.proofs.Faulty.{closing_line, go_on, then_err, wrong_line}
 use Rattle.sheets.proofs.Joins.{join_same}
-use Rattle.sheets.proofs.Partners.{map_same, partners_free}
+use Rattle.sheets.proofs.Partners.{map_same}
 use Rattle.sheets.proofs.Right as right
-use Rattle.sheets.proofs.Steps.{after_lines}
-
--- no line has an end inside
-comma_free : (x y : List ℕ) → Free 10 x → Free 10 y → Free 10 (x · y)
-comma_free _ _ f g = free_append _ _ _ f ((λ e. omega arith), g)
-
-small_free : (n : ℕ) → n < 10000 → Free 10 (decimal n)
-small_free n h = decimal_free 10 n (omega arith) (omega arith)
-
-map_free : (f : ℕ → List ℕ) (a n : ℕ) → ((x : ℕ) → a ≤ x → x < a + n → Free 10 (f x)) → AllFree 10 (map f (range_with_len a n))
-map_free f a zero h = tt
-map_free f a (suc n) h = (h a (omega arith) (omega arith), map_free f (a + 1) n (λ x l k. h x (omega arith) (omega arith)))
-
-join_free : (f : ℕ → List (List ℕ)) (a n : ℕ) → ((x : ℕ) → x < a + n → AllFree 10 (f x)) → AllFree 10 (flat_map f (range_with_len a n))
-join_free f a zero h = tt
-join_free f a (suc n) h = all_free_append _ _ _ (h a (omega arith)) (join_free f (a + 1) n (λ x l. h x (omega arith)))
-
-is_free : ℕ → List ℕ → Bool
-is_free sep [] = true
-is_free sep (b ∷ bs) = not (eqb b sep) && is_free sep bs
-
-free_yes : (sep : ℕ) (l : List ℕ) → is_free sep l ≡ true → Free sep l
-unfolding is_free
-free_yes sep [] e = tt
-free_yes sep (b ∷ bs) e =
-    let p = and_parts _ _ e in
-    (eqb-false b sep (not-true (eqb b sep) p.0), free_yes sep bs p.1)
-
-opening_names_free : Free 10 opening_names
-unfolding is_free
-opening_names_free = free_yes 10 opening_names refl
-
-item_names_free : Free 10 item_names
-unfolding is_free
-item_names_free = free_yes 10 item_names refl
-
-pair_names_free : Free 10 pair_names
-unfolding is_free
-pair_names_free = free_yes 10 pair_names refl
+use Rattle.sheets.proofs.Steps.{after_lines, same_items}
+use Rattle.sheets.proofs.Ended.{lines_cut}
+use Rattle.sheets.proofs.Places.{given_parts}
 
 module _ (s : Sheet) (ok : is_right s ≡ true) where
-  opening_free : Free 10 (opening_line s.opening)
-  opening_free =
-      comma_free _ _ (small_free _ (omega (arith, right.asked_most s ok)))
-      (comma_free _ _ (small_free _ (omega (arith, right.edition_most s ok))) (small_free _ (omega (arith, right.items_most s ok))))
-
-  item_free : (i : ℕ) → i < s.opening.items → Free 10 (item_line s i)
-  item_free i l = comma_free _ _ (small_free _ (omega (arith, right.items_most s ok))) (small_free _ (omega (arith, right.count_most s ok i l)))
-
-  pair_free : (q a : ℕ) → q < 1024 → a < 32 → Free 10 (pair_line s q a)
-  pair_free q a l k =
-      let row = get_or s.rows (place (first q) a (second q)) 0 in
-      comma_free _ _ (small_free _ (omega arith))
-      (comma_free _ _ (small_free _ (omega arith))
-      (comma_free _ _ (small_free _ (omega arith)) (partners_free 10 (get_or s.counts (second q) 0) (get_or s.rows (place (first q) a (second q)) 0) (omega arith))))
-
-  first_in : (q : ℕ) → is_given s q ≡ true → first q < s.opening.items
-  first_in q e =
-      let p = (and_parts (ltb (first q) (second q) && ltb (second q) s.opening.items) (link_bit s.links (first q) (second q)) e).0 in
-      let r = and_parts (ltb (first q) (second q)) (ltb (second q) s.opening.items) p in
-      omega (arith, ltb-true _ _ r.0, ltb-true _ _ r.1)
-
-  pairs_free : (q : ℕ) → q < 1024 → AllFree 10 (pair_lines s q)
-  pairs_free q l =
-      elim (cases_Bool (is_given s q)) [
-        | inl yes' ↦
-            subst (AllFree 10) (sym (cond-true _ _ _ yes'))
-            (map_free _ _ _ (λ a k m. pair_free q a l (omega (arith, right.count_most s ok (first q) (first_in q yes')))))
-        | inr not' ↦ subst (AllFree 10) (sym (cond-false _ _ _ not')) tt
-      ]
-
-  lines_free : AllFree 10 (lines_of s)
-  lines_free = (
-    opening_names_free,
-    (
-      opening_free,
-      (
-        item_names_free,
-        all_free_append _ _ _
-            (map_free (item_line s) 0 s.opening.items (λ i l k. item_free i (omega arith)))
-            (pair_names_free, join_free (pair_lines s) 0 1024 (λ q l. pairs_free q (omega arith))),
-      ),
-    ),
-  )
-
-  lines_cut : cut (text_of s) ≡ (lines_of s, [])
-  lines_cut = cut_ended (lines_of s) lines_free
-
   long_enough : 4 + s.opening.items < 1 + length (lines_of s)
   long_enough =
       let e = length-append (item_lines s) (pair_names ∷ all_pair_lines s) in
@@ -131,12 +47,11 @@ module _ (s : Sheet) (ok : is_right s ≡ true) where
   read_so : reading (text_of s) ≡ Ok reached
   unfolding reached
   read_so =
-      let c = (whole_text s ok).0 in
       let b = (whole_text s ok).2 in
       let w : is_whole (whole_text s ok).0 (1 + length (lines_of s)) [] ≡ true =
       and_from _ _
       (lt-ltb _ _ (subst (λ (o : Opening). 4 + o.items < 1 + length (lines_of s)) b.agree.opening long_enough)) (eq-eqb _ _ b.none) in
-      ap (λ (x : List (List ℕ) × List ℕ). follow start 1 x.0 >>= closing (1 + length x.0) x.1) lines_cut
+      ap (λ (x : List (List ℕ) × List ℕ). follow start 1 x.0 >>= closing (1 + length x.0) x.1) (lines_cut s ok)
       ∙ ap (λ (x : Result Draft Refusal). x >>= closing (1 + length (lines_of s)) []) (whole_text s ok).1
       ∙ cond-true _ _ _ w
 
@@ -148,7 +63,7 @@ module _ (s : Sheet) (ok : is_right s ≡ true) where
 
   word_same : (i : ℕ) → i < s.opening.items → get_or s.links i 0 ≡ get_or reached.links i 0
   word_same i l =
-      let n = ap (λ (o : Opening). o.items) agrees.agree.opening in
+      let n = same_items agrees.agree.opening in
       let l' : i < reached.opening.items = omega arith in
       right.same_word s.opening.items (get_or s.links i 0) (get_or reached.links i 0) (right.word_in s ok i l)
       (subst (λ (k : ℕ). get_or reached.links i 0 < 2 ^ k) (sym n) (right.word_in (sheet_of reached) right_reached i l'))
@@ -177,7 +92,7 @@ reads_back s ok = (reached s ok, read_so s ok, reads_same s ok)
 module _ (s t : Sheet) (ok : is_right s ≡ true) (e : Same s t) where
   given_same : (q : ℕ) → is_given s q ≡ is_given t q
   given_same q =
-      let n : s.opening.items ≡ t.opening.items = ap (λ (o : Opening). o.items) e.opening in
+      let n = same_items e.opening in
       elim (cases_Bool (ltb (first q) (second q) && ltb (second q) s.opening.items)) [
         | inl yes' ↦
             let r = and_parts (ltb (first q) (second q)) (ltb (second q) s.opening.items) yes' in
@@ -192,14 +107,11 @@ module _ (s t : Sheet) (ok : is_right s ≡ true) (e : Same s t) where
   pairs_same q short =
       elim (cases_Bool (is_given s q)) [
         | inl yes' ↦
-            let p = (and_parts _ _ yes').0 in
-            let r = and_parts _ _ p in
-            let low = ltb-true _ _ r.0 in
-            let j_in = ltb-true _ _ r.1 in
-            let i_in : first q < s.opening.items = omega (arith, low, j_in) in
+            let p = given_parts s q yes' in
+            let i_in : first q < s.opening.items = omega (arith, p.low, p.there) in
             cond-true _ _ _ yes'
             ∙ map_same _ _ _ _
-            (λ a l k. λ v. decimal (first q) · (decimal (second q) · (decimal a · partners (e.counts (second q) j_in v) (e.rows (first q) a (second q) low j_in (omega (arith, right.count_most s ok (first q) i_in)) v))))
+            (λ a l k. λ v. decimal (first q) · (decimal (second q) · (decimal a · partners (e.counts (second q) p.there v) (e.rows (first q) a (second q) p.low p.there (omega (arith, right.count_most s ok (first q) i_in)) v))))
             ∙ ap (λ (x : ℕ). map (pair_line t q) (range_with_len 0 x)) (e.counts (first q) i_in)
             ∙ sym (cond-true _ _ _ (sym (given_same q) ∙ yes'))
         | inr not' ↦
@@ -235,7 +147,6 @@ begins ls c f =
 
 pub faults : Faults
 faults b e h =
-    let ls = (cut b).0 in
     elim (then_err (follow start 1 (cut b).0) (closing (1 + length (cut b).0) (cut b).1) e h) [
       | inl f ↦
           let w = wrong_line start 1 (cut b).0 e f in

@@ -10,14 +10,14 @@ use Rattle.meaning.specs.Grid.{link_bit, place}
 use Rattle.meaning.specs.Limits.{within}
 use Rattle.meaning.specs.declared.refusal.Refusal.{Refusal}
 use Rattle.sheets.specs.declared.draft.Draft.{Draft}
-use Rattle.sheets.specs.declared.draft.Due.{Due}
 use Rattle.sheets.specs.Texts.{opening_right, all_pair_lines, sheet_of, item_line, pair_lines, pair_names, ◌·◌}
 use Rattle.sheets.specs.Reading.{follow, with_count}
-use Rattle.sheets.proofs.Drafted.{Drafted, up_to, skipped, next, drafted_next, seen_next}
+use Rattle.sheets.proofs.Drafted.{Drafted, skipped, up_to}
+use Rattle.sheets.proofs.Next.{next, drafted_next, seen_next}
 use Rattle.sheets.proofs.Forms.{pair_text}
 use Rattle.sheets.proofs.Joins.{join_skip}
 use Rattle.sheets.proofs.Right.{within_parts}
-use Rattle.sheets.proofs.Steps.{item_step, names_step, ok_same, pair_step, step_names}
+use Rattle.sheets.proofs.Steps.{item_step, names_step, ok_same, pair_step, step_names, same_pair, same_option}
 
 pub record Fixed (d c : Draft) (i : ℕ) : Type 0 where
   pub opening : c.opening ≡ d.opening
@@ -75,10 +75,10 @@ module _ (d : Draft) (i : ℕ) (h : Items d i) where
   no_row k = ap (λ (l : List ℕ). get_or l k 0) h.no_rows ∙ nothing_at 15872 k
 
   pub pair_first : d.due.pair ≡ 0
-  pair_first = ap (λ (e : Due). e.pair) h.first_due
+  pair_first = same_pair h.first_due
 
   pub option_first : d.due.option ≡ 0
-  option_first = ap (λ (e : Due). e.option) h.first_due
+  option_first = same_option h.first_due
 
   pub drafted_first : i ≡ d.opening.items → Drafted d
   drafted_first e = record {

@@ -1,7 +1,7 @@
 -- What a line was where it was accepted.
 -- Turn e q: the pair q may come, where e is due
 -- Fits d l: the pair line l may come after d
-use Rattle.std.proofs.Common.{◌≡◌, ℕ, ◌+◌, ◌*◌, ◌<◌, ◌≤◌, Bool, true, false, cond, not, eqb, leb, ◌⊎◌, List, [], ◌∷◌, ◌++◌, length, get_or, Some, None, Ok, Err, Option, decimal, Result, sym, refl, ap, ◌∙◌, inl, inr, arith}
+use Rattle.std.proofs.Common.{◌≡◌, ℕ, ◌+◌, ◌*◌, ◌<◌, ◌≤◌, Bool, true, false, cond, not, ◌&&◌, eqb, ltb, leb, ◌⊎◌, List, [], ◌∷◌, ◌++◌, length, get_or, Some, None, Ok, Err, Option, decimal, Result, sym, refl, ap, ◌∙◌, inl, inr, arith}
 use Rattle.std.proofs.lemmas.Slice.Eq.{bytes_eq-Decides}
 use Rattle.std.proofs.lemmas.Bool.{not_from_true, and_parts, cases_Bool, cond-true, cond-false, eqb-true, leb-true, ltb-true, lt-ltb, le-ltb}
 use Rattle.std.proofs.lemmas.Bool.Decides.{nat_tests}
@@ -30,6 +30,15 @@ passed false r e d h = absurd cc
 
 pub pass : (b : Bool) (r : Result Draft Refusal) (e : Refusal) → b ≡ true → cond (not b) (Err e) r ≡ r
 pass b r e h = cond-false (not b) (Err e) r (not_from_true b h)
+
+pub same_items : {o p : Opening} → o ≡ p → o.items ≡ p.items
+same_items e = ap (λ (o : Opening). o.items) e
+
+pub same_pair : {e f : Due} → e ≡ f → e.pair ≡ f.pair
+same_pair h = ap (λ (e : Due). e.pair) h
+
+pub same_option : {e f : Due} → e ≡ f → e.option ≡ f.option
+same_option h = ap (λ (e : Due). e.option) h
 
 pub ok_same : (d c : Draft) → ◌≡◌ {A = Result Draft Refusal} (Ok d) (Ok c) → d ≡ c
 ok_same d c e = cc
@@ -82,11 +91,12 @@ in_turn e q t =
       | inr z ↦ inr (eqb-true _ _ (sym (cond-false _ _ _ z) ∙ t))
     ]
 
+no_other_length : (j n m k : ℕ) → (ltb j n && not (eqb m k)) ≡ false → j < n → m ≡ k
+no_other_length j n m k e l = grind (arith, nat_tests)
+
 pair_ok : (d : Draft) (k : ℕ) (f : Option PairLine) (c : Draft) → reading.pair d k f ≡ Ok c → (l : PairLine) × (f ≡ Some l) × Fits d l × (with_row d l ≡ c)
 pair_ok d k None c e = absurd cc
 pair_ok d k (Some l) c e =
-    let n = d.opening.items in
-    let q = 32 * l.first + l.second in
     let p = cond_out _ _ _ _ e in
     let r = passed _ _ _ _ p.1 in
     let s = passed _ _ _ _ r.1 in
@@ -100,7 +110,7 @@ pair_ok d k (Some l) c e =
         low = ltb-true _ _ t.0;
         there = ltb-true _ _ y.0;
         an_option = ltb-true _ _ y.1;
-        long = (let a = p.0 in let b = y.0 in eqb-true _ _ (grind (arith, nat_tests)));
+        long = no_other_length _ _ _ _ p.0 (ltb-true _ _ y.0);
         due = eqb-true _ _ u.0;
         turn = in_turn d.due (32 * l.first + l.second) u.1;
       },

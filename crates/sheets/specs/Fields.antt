@@ -11,6 +11,7 @@ use Rattle.bits.specs.Below.{one_if}
 use Rattle.bits.specs.Bits.{bit}
 use Rattle.sheets.specs.declared.draft.Opening.{Opening}
 
+-- what the line of an item says, and a line of a pair
 pub record ItemLine : Type 0 where
   pub item : ℕ
   pub options : ℕ
