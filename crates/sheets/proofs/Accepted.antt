@@ -142,13 +142,13 @@ right_now c h =
 
 pub only_texts : OnlyTexts
 only_texts b d e =
-    let r = then_ok (follow start 1 (cut b).0) (closing (1 + length (cut b).0) (cut b).1) d e in
-    let p = cond_in (is_whole r.0 (1 + length (cut b).0) (cut b).1) (Ok r.0) _ d r.2 in
+    let r = then_ok (follow start 1 (cut b).lines) (closing (1 + length (cut b).lines) (cut b).rest) d e in
+    let p = cond_in (is_whole r.0 (1 + length (cut b).lines) (cut b).rest) (Ok r.0) _ d r.2 in
     let is : r.0 ≡ d = let z = p.1 in cc in
     let q = and_parts _ _ p.0 in
     let w = and_parts _ _ q.1 in
-    let v = sound_lines (cut b).0 r.0 r.1 (ltb-true _ _ w.0) (eqb-true _ _ w.1) in
-    let none : (cut b).1 ≡ [] = nil_from_length (cut b).1 (eqb-true _ _ q.0) in
+    let v = sound_lines (cut b).lines r.0 r.1 (ltb-true _ _ w.0) (eqb-true _ _ w.1) in
+    let none : (cut b).rest ≡ [] = nil_from_length (cut b).rest (eqb-true _ _ q.0) in
     let text : b ≡ text_of (sheet_of r.0) =
-    sym (cut_joins b) ∙ ap (λ (x : List ℕ). flat_map ended (cut b).0 ++ x) none ∙ append-nil (flat_map ended (cut b).0) ∙ ap (flat_map ended) v.text in
+    sym (cut_joins b) ∙ ap (λ (x : List ℕ). flat_map ended (cut b).lines ++ x) none ∙ append-nil (flat_map ended (cut b).lines) ∙ ap (flat_map ended) v.text in
     subst (Accepted b) is (record { text = text; right = right_now r.0 v.drafted; blank = blank_now r.0 v.drafted })

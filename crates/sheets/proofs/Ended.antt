@@ -76,5 +76,5 @@ module _ (s : Sheet) (ok : is_right s ≡ true) where
       let below = all_free_append _ _ _ (map_free (item_line s) 0 s.opening.items (λ i l k. item_free i (omega arith))) (pair_names_free, join_free (pair_lines s) 0 1024 (λ q l. pairs_free q (omega arith))) in
       (opening_names_free, (opening_free, (item_names_free, below)))
 
-  pub lines_cut : cut (text_of s) ≡ (lines_of s, [])
+  pub lines_cut : cut (text_of s) ≡ record { lines = lines_of s; rest = [] }
   lines_cut = cut_ended (lines_of s) lines_free

@@ -4,7 +4,7 @@ use Rattle.std.proofs.Common.{◌≡◌, ℕ, ◌<◌, true, List, Some, None, d
 use Rattle.std.proofs.lemmas.Bool.{cond-true}
 use Rattle.std.proofs.lemmas.Option.{cond_some}
 use Rattle.sheets.specs.declared.draft.Opening.{Opening}
-use Rattle.sheets.specs.Fields.{ItemLine, PairLine, are_bits, item_of, number_of, opening_of, pair_of, parted, ◌>>=◌}
+use Rattle.sheets.specs.Fields.{ItemLine, PairLine, are_bits, item_of, number_of, opening_of, pair_of, parted, ◌>>=◌, Parted}
 use Rattle.sheets.specs.Texts.{opening_line, ◌·◌}
 use Rattle.sheets.proofs.Numbers.{number_only, number_back}
 use Rattle.sheets.proofs.Cutting.{parted_at, parted_joins, decimal_free}
@@ -23,22 +23,22 @@ then_back : {A B : Type 0} (o : Option A) (x : A) (g : A → Option B) (r : Opti
 then_back o x g r e f = ap (λ (z : Option _). z >>= g) e ∙ f
 
 -- the first number of a line, and what follows it
-number_part : (l : List ℕ) (p : List ℕ × List ℕ) (n : ℕ) → parted 44 l ≡ Some p → number_of p.0 ≡ Some n → l ≡ decimal n · p.1
-number_part l p n e f = sym (parted_joins 44 l p e) ∙ ap (λ (x : List ℕ). x · p.1) (number_only p.0 n f).1
+number_part : (l : List ℕ) (p : Parted) (n : ℕ) → parted 44 l ≡ Some p → number_of p.before ≡ Some n → l ≡ decimal n · p.after
+number_part l p n e f = sym (parted_joins 44 l p e) ∙ ap (λ (x : List ℕ). x · p.after) (number_only p.before n f).1
 
-part_back : (n : ℕ) (rest : List ℕ) → n < 10000 → parted 44 (decimal n · rest) ≡ Some (decimal n, rest)
+part_back : (n : ℕ) (rest : List ℕ) → n < 10000 → parted 44 (decimal n · rest) ≡ Some (record { before = decimal n; after = rest })
 part_back n rest h = parted_at 44 (decimal n) rest (decimal_free 44 n (omega arith) (omega arith))
 
 pub opening_only : (l : List ℕ) (o : Opening) → opening_of l ≡ Some o → l ≡ opening_line o
 opening_only l o e =
     let p = then_some (parted 44 l) _ o e in
-    let q = then_some (parted 44 p.0.1) _ o p.2 in
-    let a = then_some (number_of p.0.0) _ o q.2 in
-    let t = then_some (number_of q.0.0) _ o a.2 in
-    let n = then_some (number_of q.0.1) _ o t.2 in
+    let q = then_some (parted 44 p.0.after) _ o p.2 in
+    let a = then_some (number_of p.0.before) _ o q.2 in
+    let t = then_some (number_of q.0.before) _ o a.2 in
+    let n = then_some (number_of q.0.after) _ o t.2 in
     let is : ◌≡◌ {A = Opening} (record { asked = a.0; edition = t.0; items = n.0 }) o = let z = n.2 in cc in
     number_part l p.0 a.0 p.1 a.1
-    ∙ ap (λ (x : List ℕ). decimal a.0 · x) (number_part p.0.1 q.0 t.0 q.1 t.1 ∙ ap (λ (x : List ℕ). decimal t.0 · x) (number_only q.0.1 n.0 n.1).1)
+    ∙ ap (λ (x : List ℕ). decimal a.0 · x) (number_part p.0.after q.0 t.0 q.1 t.1 ∙ ap (λ (x : List ℕ). decimal t.0 · x) (number_only q.0.after n.0 n.1).1)
     ∙ ap opening_line is
 
 pub opening_back : (o : Opening) → o.asked < 10000 → o.edition < 10000 → o.items < 10000 → opening_of (opening_line o) ≡ Some o
@@ -50,10 +50,10 @@ opening_back o h k l =
 pub item_only : (l : List ℕ) (t : ItemLine) → item_of l ≡ Some t → l ≡ item_text t
 item_only l t e =
     let p = then_some (parted 44 l) _ t e in
-    let i = then_some (number_of p.0.0) _ t p.2 in
-    let c = then_some (number_of p.0.1) _ t i.2 in
+    let i = then_some (number_of p.0.before) _ t p.2 in
+    let c = then_some (number_of p.0.after) _ t i.2 in
     let is : ◌≡◌ {A = ItemLine} (record { item = i.0; options = c.0 }) t = let z = c.2 in cc in
-    number_part l p.0 i.0 p.1 i.1 ∙ ap (λ (x : List ℕ). decimal i.0 · x) (number_only p.0.1 c.0 c.1).1 ∙ ap item_text is
+    number_part l p.0 i.0 p.1 i.1 ∙ ap (λ (x : List ℕ). decimal i.0 · x) (number_only p.0.after c.0 c.1).1 ∙ ap item_text is
 
 pub item_back : (t : ItemLine) → t.item < 10000 → t.options < 10000 → item_of (item_text t) ≡ Some t
 item_back t h k =
@@ -62,17 +62,17 @@ item_back t h k =
 pub pair_only : (l : List ℕ) (t : PairLine) → pair_of l ≡ Some t → (are_bits t.partners ≡ true) × (l ≡ pair_text t)
 pair_only l t e =
     let p = then_some (parted 44 l) _ t e in
-    let q = then_some (parted 44 p.0.1) _ t p.2 in
-    let r = then_some (parted 44 q.0.1) _ t q.2 in
-    let i = then_some (number_of p.0.0) _ t r.2 in
-    let j = then_some (number_of q.0.0) _ t i.2 in
-    let a = then_some (number_of r.0.0) _ t j.2 in
-    let is = cond_some (are_bits r.0.1) (record { first = i.0; second = j.0; option = a.0; partners = r.0.1 }) t a.2 in
+    let q = then_some (parted 44 p.0.after) _ t p.2 in
+    let r = then_some (parted 44 q.0.after) _ t q.2 in
+    let i = then_some (number_of p.0.before) _ t r.2 in
+    let j = then_some (number_of q.0.before) _ t i.2 in
+    let a = then_some (number_of r.0.before) _ t j.2 in
+    let is = cond_some (are_bits r.0.after) (record { first = i.0; second = j.0; option = a.0; partners = r.0.after }) t a.2 in
     subst (λ (x : PairLine). (are_bits x.partners ≡ true) × (l ≡ pair_text x)) is.1 (
       is.0,
       number_part l p.0 i.0 p.1 i.1
-          ∙ ap (λ (x : List ℕ). decimal i.0 · x) (number_part p.0.1 q.0 j.0 q.1 j.1
-          ∙ ap (λ (x : List ℕ). decimal j.0 · x) (number_part q.0.1 r.0 a.0 r.1 a.1)),
+          ∙ ap (λ (x : List ℕ). decimal i.0 · x) (number_part p.0.after q.0 j.0 q.1 j.1
+          ∙ ap (λ (x : List ℕ). decimal j.0 · x) (number_part q.0.after r.0 a.0 r.1 a.1)),
     )
 
 pub pair_back : (t : PairLine) → t.first < 10000 → t.second < 10000 → t.option < 10000 → are_bits t.partners ≡ true → pair_of (pair_text t) ≡ Some t

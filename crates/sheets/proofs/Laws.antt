@@ -14,7 +14,7 @@ use Rattle.meaning.specs.declared.refusal.Refusal.{Refusal}
 use Rattle.meaning.specs.declared.refusal.Refusal.TheVariants.{MemoryShort, OutOfLimits}
 use Rattle.sheets.specs.declared.draft.Draft.{Draft}
 use Rattle.sheets.specs.declared.draft.Opening.{Opening}
-use Rattle.sheets.specs.Fields.{cut, partners}
+use Rattle.sheets.specs.Fields.{cut, partners, Cut}
 use Rattle.sheets.specs.Texts.{all_pair_lines, item_lines, Sheet, Same, ended, first, is_given, item_line, item_names, lines_of, opening_line, opening_names, pair_line, pair_lines, pair_names, is_right, second, sheet_of, sheet_of_parts, text_of, ◌·◌}
 use Rattle.sheets.specs.Reading.{closing, follow, reading, start, is_whole, ◌>>=◌}
 use Rattle.sheets.specs.Writing.{fitting, writing}
@@ -51,7 +51,7 @@ module _ (s : Sheet) (ok : is_right s ≡ true) where
       let w : is_whole (whole_text s ok).0 (1 + length (lines_of s)) [] ≡ true =
       and_from _ _
       (lt-ltb _ _ (subst (λ (o : Opening). 4 + o.items < 1 + length (lines_of s)) b.agree.opening long_enough)) (eq-eqb _ _ b.none) in
-      ap (λ (x : List (List ℕ) × List ℕ). follow start 1 x.0 >>= closing (1 + length x.0) x.1) (lines_cut s ok)
+      ap (λ (x : Cut). follow start 1 x.lines >>= closing (1 + length x.lines) x.rest) (lines_cut s ok)
       ∙ ap (λ (x : Result Draft Refusal). x >>= closing (1 + length (lines_of s)) []) (whole_text s ok).1
       ∙ cond-true _ _ _ w
 
@@ -147,27 +147,27 @@ begins ls c f =
 
 pub faults : Faults
 faults b e h =
-    elim (then_err (follow start 1 (cut b).0) (closing (1 + length (cut b).0) (cut b).1) e h) [
+    elim (then_err (follow start 1 (cut b).lines) (closing (1 + length (cut b).lines) (cut b).rest) e h) [
       | inl f ↦
-          let w = wrong_line start 1 (cut b).0 e f in
+          let w = wrong_line start 1 (cut b).lines e f in
           let here_line : place_of e ≡ suc w.place = w.line ∙ omega arith in
           record {
             least = omega (arith, here_line);
             most = omega (arith, here_line, w.within_lines);
-            before = subst (λ (k : ℕ). (s : Sheet) × (rest : List (List ℕ)) × (is_right s ≡ true) × (lines_of s ≡ take k (cut b).0 ++ rest)) (omega (arith, here_line)) (begins (take w.place (cut b).0) w.reached w.sound);
+            before = subst (λ (k : ℕ). (s : Sheet) × (rest : List (List ℕ)) × (is_right s ≡ true) × (lines_of s ≡ take k (cut b).lines ++ rest)) (omega (arith, here_line)) (begins (take w.place (cut b).lines) w.reached w.sound);
             here = λ l s rest ok t.
                 let q = whole_text s ok in
-                let t' : lines_of s ≡ take (suc w.place) (cut b).0 ++ rest = t ∙ ap (λ (k : ℕ). take k (cut b).0 ++ rest) here_line in
+                let t' : lines_of s ≡ take (suc w.place) (cut b).lines ++ rest = t ∙ ap (λ (k : ℕ). take k (cut b).lines ++ rest) here_line in
                 let bad : follow start 1 (lines_of s) ≡ Err e =
-                ap (follow start 1) t' ∙ after_lines start 1 (take (suc w.place) (cut b).0) rest (Err e) w.fault in
+                ap (follow start 1) t' ∙ after_lines start 1 (take (suc w.place) (cut b).lines) rest (Err e) w.fault in
                 cc (q.1, bad);
           }
       | inr f ↦
-          let here_line = closing_line (1 + length (cut b).0) (cut b).1 f.0 e f.2 in
+          let here_line = closing_line (1 + length (cut b).lines) (cut b).rest f.0 e f.2 in
           record {
             least = omega (arith, here_line);
             most = omega (arith, here_line);
-            before = subst (λ (xs : List (List ℕ)). (s : Sheet) × (rest : List (List ℕ)) × (is_right s ≡ true) × (lines_of s ≡ xs ++ rest)) (sym (take_all (place_of e - 1) (cut b).0 (omega (arith, here_line)))) (begins (cut b).0 f.0 f.1);
+            before = subst (λ (xs : List (List ℕ)). (s : Sheet) × (rest : List (List ℕ)) × (is_right s ≡ true) × (lines_of s ≡ xs ++ rest)) (sym (take_all (place_of e - 1) (cut b).lines (omega (arith, here_line)))) (begins (cut b).lines f.0 f.1);
             here = λ l. absurd (omega (arith, here_line));
           }
     ]

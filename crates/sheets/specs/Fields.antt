@@ -22,21 +22,35 @@ pub record PairLine : Type 0 where
   pub option : ℕ
   pub partners : List ℕ
 
-abbrev pub longer : ℕ → List ℕ × List ℕ → List ℕ × List ℕ
-longer b p = (b ∷ p.0, p.1)
+-- the pair of a line, by the number that it has in the text
+abbrev pub pair_number : PairLine → ℕ
+pair_number l = 32 * l.first + l.second
 
-abbrev pub parted : ℕ → List ℕ → Option (List ℕ × List ℕ)
+pub record Parted : Type 0 where
+  pub before : List ℕ
+  pub after : List ℕ
+
+abbrev pub longer : ℕ → Parted → Parted
+longer b p = record p { before = b ∷ p.before }
+
+abbrev pub parted : ℕ → List ℕ → Option Parted
 parted sep [] = None
-parted sep (b ∷ bs) = if b == sep then Some ([], bs) else option_map (longer b) (parted sep bs)
+parted sep (b ∷ bs) = if b == sep then Some (record { before = []; after = bs }) else option_map (longer b) (parted sep bs)
+
+pub record Cut : Type 0 where
+  pub lines : List (List ℕ)
+  pub rest : List ℕ
 
 -- a byte more in front of the first line
-abbrev pub begun : ℕ → List (List ℕ) → List ℕ → List (List ℕ) × List ℕ
-begun b [] rest = ([], b ∷ rest)
-begun b (l ∷ ls) rest = ((b ∷ l) ∷ ls, rest)
+abbrev pub begun : ℕ → List (List ℕ) → List ℕ → Cut
+begun b [] rest = record { lines = []; rest = b ∷ rest }
+begun b (l ∷ ls) rest = record { lines = (b ∷ l) ∷ ls; rest = rest }
 
-abbrev pub cut : List ℕ → List (List ℕ) × List ℕ
-cut [] = ([], [])
-cut (b ∷ bs) = if b == 10 then ([] ∷ (cut bs).0, (cut bs).1) else begun b (cut bs).0 (cut bs).1
+abbrev pub cut : List ℕ → Cut
+cut [] = record { lines = []; rest = [] }
+cut (b ∷ bs) =
+    if b == 10 then record { lines = [] ∷ (cut bs).lines; rest = (cut bs).rest }
+    else begun b (cut bs).lines (cut bs).rest
 
 abbrev pub is_digit : ℕ → Bool
 is_digit b = nat_le 48 b && nat_le b 57
@@ -73,25 +87,25 @@ o >>= f = option_and_then f o
 abbrev pub opening_of : List ℕ → Option Opening
 opening_of l = do
   p ← parted 44 l
-  q ← parted 44 p.1
-  asked ← number_of p.0
-  edition ← number_of q.0
-  items ← number_of q.1
+  q ← parted 44 p.after
+  asked ← number_of p.before
+  edition ← number_of q.before
+  items ← number_of q.after
   Some (record { asked = asked; edition = edition; items = items })
 
 abbrev pub item_of : List ℕ → Option ItemLine
 item_of l = do
   p ← parted 44 l
-  i ← number_of p.0
-  c ← number_of p.1
+  i ← number_of p.before
+  c ← number_of p.after
   Some (record { item = i; options = c })
 
 abbrev pub pair_of : List ℕ → Option PairLine
 pair_of l = do
   p ← parted 44 l
-  q ← parted 44 p.1
-  r ← parted 44 q.1
-  i ← number_of p.0
-  j ← number_of q.0
-  a ← number_of r.0
-  if are_bits r.1 then Some (record { first = i; second = j; option = a; partners = r.1 }) else None
+  q ← parted 44 p.after
+  r ← parted 44 q.after
+  i ← number_of p.before
+  j ← number_of q.before
+  a ← number_of r.before
+  if are_bits r.after then Some (record { first = i; second = j; option = a; partners = r.after }) else None

@@ -6,7 +6,7 @@
 -- step d k l: the same for the line that is due after d; follow: for several lines, from line k on
 -- is_whole: nothing more is due after line k
 -- reading b: the junction that the bytes b give, or the refusal due to them
-use Rattle.std.specs.Prelude.{ℕ, ◌+◌, ◌*◌, ◌^◌, Bool, if◌then◌else◌, not, ◌&&◌, List, [], ◌∷◌, length, replicate, Some, None, Ok, Err, Option, Result, ◌==◌, bit_or, nat_le, nat_lt, slice_index, slice_set}
+use Rattle.std.specs.Prelude.{ℕ, ◌+◌, ◌^◌, Bool, if◌then◌else◌, not, ◌&&◌, List, [], ◌∷◌, length, replicate, Some, None, Ok, Err, Option, Result, ◌==◌, bit_or, nat_le, nat_lt, slice_index, slice_set}
 use Rattle.std.specs.Str.{bytes_eq}
 use Rattle.meaning.specs.Grid.{place}
 use Rattle.meaning.specs.Limits.{within}
@@ -15,7 +15,7 @@ use Rattle.meaning.specs.declared.refusal.Refusal.TheVariants.{Malformed, OutOfL
 use Rattle.sheets.specs.declared.draft.Draft.{Draft}
 use Rattle.sheets.specs.declared.draft.Due.{Due}
 use Rattle.sheets.specs.declared.draft.Opening.{Opening}
-use Rattle.sheets.specs.Fields.{ItemLine, PairLine, cut, item_of, opening_of, pair_of, word_of}
+use Rattle.sheets.specs.Fields.{ItemLine, PairLine, cut, item_of, opening_of, pair_number, pair_of, word_of}
 use Rattle.sheets.specs.Texts.{item_names, opening_names, opening_right, pair_names}
 
 unfoldable pub start : Draft
@@ -47,7 +47,7 @@ item d k (Some l) =
 abbrev pub is_turn : Due → PairLine → Bool
 is_turn e l =
     nat_lt l.first l.second
-    && (l.option == e.option && (if e.option == 0 then nat_le e.pair (32 * l.first + l.second) else e.pair == 32 * l.first + l.second))
+    && (l.option == e.option && (if e.option == 0 then nat_le e.pair (pair_number l) else e.pair == pair_number l))
 
 abbrev pub due_after : ℕ → ℕ → ℕ → Due
 due_after n q a = if nat_lt (a + 1) n then record { pair = q; option = a + 1 } else record { pair = q + 1; option = 0 }
@@ -59,7 +59,7 @@ abbrev pub with_row : Draft → PairLine → Draft
 with_row d l = record d {
   links = with_link (with_link d.links l.first l.second) l.second l.first;
   rows = slice_set d.rows (place l.first l.option l.second) (word_of l.partners);
-  due = due_after (slice_index d.counts l.first) (32 * l.first + l.second) l.option;
+  due = due_after (slice_index d.counts l.first) (pair_number l) l.option;
 }
 
 -- the length of the partners is judged only where the second item is there
@@ -103,7 +103,7 @@ abbrev pub closing : ℕ → List ℕ → Draft → Result Draft Refusal
 closing k rest d = if is_whole d k rest then Ok d else Err (Malformed k)
 
 abbrev pub reading : List ℕ → Result Draft Refusal
-reading b = follow start 1 (cut b).0 >>= closing (1 + length (cut b).0) (cut b).1
+reading b = follow start 1 (cut b).lines >>= closing (1 + length (cut b).lines) (cut b).rest
 
 -- memory for 32 counts, 32 links and 15,872 rows, and a sheet that is not too long, come first
 abbrev pub reading_into : List ℕ → ℕ → ℕ → ℕ → Result Draft Refusal
