@@ -4,8 +4,9 @@
 -- number_of s: the number that s writes, below 10,000
 -- partners k w: the k lowest bits of w, the lowest first; are_bits s: zeros and ones only; word_of s: the word they write
 -- opening_of, item_of, pair_of: the fields of a line of that form, if it has the form
-use Rattle.std.specs.Prelude.{ℕ, ◌+◌, ◌-◌, ◌*◌, Bool, true, if◌then◌else◌, ◌&&◌, ◌||◌, List, [], ◌∷◌, map, Some, None, Option, option_and_then, ◌==◌, nat_le, nat_lt}
-use Rattle.std.specs.List.{range_with_len}
+use Rattle.std.specs.Prelude.{ℕ, ◌+◌, ◌-◌, ◌*◌, Bool, if◌then◌else◌, ◌&&◌, ◌||◌, List, [], ◌∷◌, map, Some, None, Option, option_and_then, ◌==◌, nat_lt}
+use Rattle.std.specs.Char.{is_ascii_digit}
+use Rattle.std.specs.List.{list_all, range_with_len}
 use Rattle.std.specs.Option.{option_map}
 use Rattle.bits.specs.Below.{one_if}
 use Rattle.bits.specs.Bits.{bit}
@@ -52,13 +53,10 @@ cut (b ∷ bs) =
     if b == 10 then record { lines = [] ∷ (cut bs).lines; rest = (cut bs).rest }
     else begun b (cut bs).lines (cut bs).rest
 
-abbrev pub is_digit : ℕ → Bool
-is_digit b = nat_le 48 b && nat_le b 57
-
 -- v, with the digits s after it; a fifth digit is refused
 abbrev pub digits_after : ℕ → List ℕ → Option ℕ
 digits_after v [] = Some v
-digits_after v (b ∷ bs) = if is_digit b && nat_lt v 1000 then digits_after (v * 10 + (b - 48)) bs else None
+digits_after v (b ∷ bs) = if is_ascii_digit b && nat_lt v 1000 then digits_after (v * 10 + (b - 48)) bs else None
 
 abbrev pub zero_alone : List ℕ → Option ℕ
 zero_alone [] = Some 0
@@ -72,8 +70,7 @@ abbrev pub partners : ℕ → ℕ → List ℕ
 partners k w = map (λ b. 48 + one_if (bit w b)) (range_with_len 0 k)
 
 abbrev pub are_bits : List ℕ → Bool
-are_bits [] = true
-are_bits (b ∷ bs) = (b == 48 || b == 49) && are_bits bs
+are_bits s = list_all (λ b. b == 48 || b == 49) s
 
 abbrev pub word_of : List ℕ → ℕ
 word_of [] = 0
