@@ -1,38 +1,44 @@
 -- Fields put together with commas come apart again, and so do lines put together with their ends.
--- Free sep s: no byte of s is sep
-use Rattle.std.proofs.Common.{◌≡◌, ℕ, ◌^◌, ◌<◌, eqb, List, [], ◌∷◌, ◌++◌, Some, None, decimal, Option, sym, refl, ap, ◌∙◌, ⊎_elim, append_assoc, arith}
-use Rattle.std.specs.List.{flat_map}
+-- Free sep s: no byte of s is sep; AllFree sep ls: nor any of the lines ls
+use Rattle.std.proofs.Common.{◌≡◌, ℕ, ◌^◌, ◌<◌, eqb, List, [], ◌∷◌, ◌++◌, Some, None, decimal, Option, sym, refl, ap, ◌∙◌, ⊎_elim, append_assoc, arith, Bool, true, false, not, ◌+◌, ◌%◌}
+use Rattle.std.specs.List.{flat_map, list_all}
 use Rattle.std.specs.Option.{option_map}
 use Rattle.std.proofs.lemmas.Fmt.{decimal_by_steps}
-use Rattle.std.proofs.lemmas.Bool.{cases_Bool, cond-true, cond-false, eqb-true, ne_eqb, eq-eqb}
+use Rattle.std.proofs.lemmas.Bool.{cases_Bool, cond-true, cond-false, eqb-true, eq-eqb, and_from, and_parts, not-true}
 use Rattle.sheets.specs.Fields.{Cut, Parted, begun, cut, longer, parted}
 use Rattle.sheets.specs.Texts.{ended}
+use Rattle.std.proofs.lemmas.List.Folds.{list_all-append}
+use Rattle.std.proofs.lemmas.Bool.Decides.{nat_tests}
+
+abbrev pub is_free : ℕ → List ℕ → Bool
+is_free sep s = list_all (λ b. not (eqb b sep)) s
 
 abbrev pub Free : ℕ → List ℕ → Type 0
-Free sep [] = Unit {0}
-Free sep (b ∷ bs) = (b ≡ sep → ⊥) × Free sep bs
+Free sep s = is_free sep s ≡ true
 
 abbrev pub AllFree : ℕ → List (List ℕ) → Type 0
-AllFree sep [] = Unit {0}
-AllFree sep (l ∷ ls) = Free sep l × AllFree sep ls
+AllFree sep ls = list_all (is_free sep) ls ≡ true
 
 pub free_append : (sep : ℕ) (s t : List ℕ) → Free sep s → Free sep t → Free sep (s ++ t)
-free_append sep [] t f g = g
-free_append sep (b ∷ bs) t f g = (f.0, free_append sep bs t f.1 g)
+free_append sep s t f g = list_all-append (λ b. not (eqb b sep)) s t ∙ and_from _ _ f g
 
-pub all_free_append : (sep : ℕ) (s t : List (List ℕ)) → AllFree sep s → AllFree sep t → AllFree sep (s ++ t)
-all_free_append sep [] t f g = g
-all_free_append sep (l ∷ ls) t f g = (f.0, all_free_append sep ls t f.1 g)
+-- the first byte is not sep, and no other is
+free_parts : (sep b : ℕ) (bs : List ℕ) → Free sep (b ∷ bs) → (eqb b sep ≡ false) × Free sep bs
+free_parts sep b bs f =
+    let p = and_parts _ _ f in
+    (not-true (eqb b sep) p.0, p.1)
 
 pub decimal_free : (sep n : ℕ) → sep < 48 → n < 2 ^ 64 → Free sep (decimal n)
 decimal_free sep n low =
     decimal_by_steps (λ n ds. Free sep ds)
-    (λ n h. ((λ e. omega arith), tt))
-    (λ n ds h f. free_append _ _ _ f ((λ e. omega arith), tt)) n
+    (λ n h. grind (arith, nat_tests))
+    (λ n ds h f. free_append sep ds ((48 + n % 10) ∷ []) f (grind (arith, nat_tests))) n
 
 pub parted_at : (sep : ℕ) (s t : List ℕ) → Free sep s → parted sep (s ++ (sep ∷ t)) ≡ Some (record { before = s; after = t })
 parted_at sep [] t f = cond-true _ _ _ (eq-eqb sep sep refl)
-parted_at sep (b ∷ bs) t f = cond-false _ _ _ (ne_eqb b sep f.0) ∙ ap (option_map (longer b)) (parted_at sep bs t f.1)
+parted_at sep (b ∷ bs) t f =
+    let p = free_parts sep b bs f in
+    cond-false _ _ _ p.0 ∙ ap (option_map (longer b)) (parted_at sep bs t p.1)
 
 abbrev joined : ℕ → Parted → List ℕ
 joined sep p = p.before ++ (sep ∷ p.after)
@@ -56,13 +62,16 @@ parted_joins sep (b ∷ bs) p e =
 -- the lines of an ended line before other bytes
 cut_line : (l t : List ℕ) → Free 10 l → cut (l ++ (10 ∷ t)) ≡ record { lines = l ∷ (cut t).lines; rest = (cut t).rest }
 cut_line [] t f = refl
-cut_line (b ∷ bs) t f = cond-false _ _ _ (ne_eqb _ _ f.0) ∙ ap (λ (c : Cut). begun b c.lines c.rest) (cut_line bs t f.1)
+cut_line (b ∷ bs) t f =
+    let p = free_parts 10 b bs f in
+    cond-false _ _ _ p.0 ∙ ap (λ (c : Cut). begun b c.lines c.rest) (cut_line bs t p.1)
 
 pub cut_ended : (ls : List (List ℕ)) → AllFree 10 ls → cut (flat_map ended ls) ≡ record { lines = ls; rest = [] }
 cut_ended [] f = refl
 cut_ended (l ∷ ls) f =
-    ap cut (append_assoc l (10 ∷ []) (flat_map ended ls)) ∙ cut_line l (flat_map ended ls) f.0
-    ∙ ap (λ (c : Cut). record { lines = l ∷ c.lines; rest = c.rest }) (cut_ended ls f.1)
+    let p = and_parts _ _ f in
+    ap cut (append_assoc l (10 ∷ []) (flat_map ended ls)) ∙ cut_line l (flat_map ended ls) p.0
+    ∙ ap (λ (c : Cut). record { lines = l ∷ c.lines; rest = c.rest }) (cut_ended ls p.1)
 
 abbrev whole : Cut → List ℕ
 whole c = flat_map ended c.lines ++ c.rest

@@ -47,8 +47,8 @@ bits_back (suc k) w =
     ap are_bits (partners_more k w) ∙ grind (arith, nat_tests)
 
 pub partners_free : (sep k w : ℕ) → sep < 48 → Free sep (partners k w)
-partners_free sep zero w h = tt
-partners_free sep (suc k) w h = subst (Free sep) (sym (partners_more k w)) ((λ e. omega arith), partners_free sep k (w / 2) h)
+partners_free sep zero w h = refl
+partners_free sep (suc k) w h = subst (Free sep) (sym (partners_more k w)) (let ih = partners_free sep k (w / 2) h in grind (arith, nat_tests))
 
 pub word_small : (s : List ℕ) → are_bits s ≡ true → word_of s < 2 ^ length s
 word_small [] e = omega arith

@@ -1,6 +1,7 @@
 -- The text of a junction: the one sheet that says it.
 -- Sheet: a junction in the grid book's layout, opened by the edition asked for, the edition of its tables and its number of items
 -- opening_right, is_right: both editions, the sizes and the contents are within what the grid book's check accepts
+-- item_lines, all_pair_lines: the lines of its items, and those of its pairs, in the order of their numbers
 -- lines_of: the lines of its text; text_of: these lines, each ended by byte 10
 -- first q, second q: the items of the pair q; is_given s q: the pair q is a linked one, its lower item first
 -- Same s t: two sheets say the same junction and both editions
