@@ -1,6 +1,7 @@
 -- What a sheet is read as: the first faulty line decides, and in it 9 comes before 10 and 10 before 11.
 -- start: nothing is given yet
 -- opening, item, pair: what a line of that form makes of the draft d, or its fault; k is its number
+-- is_there d l: the items and the option of the pair line l are among those read
 -- is_turn e l: the pair line l is the next one, where e is due
 -- due_after n q a: what is due after the option a of the pair q, whose first item has n options
 -- step d k l: the same for the line that is due after d; follow: for several lines, from line k on
@@ -43,6 +44,9 @@ item d k (Some l) =
     else if not (4 + l.item == k) then Err (OutOfTurn k)
     else Ok (with_count d l.item l.options)
 
+abbrev pub is_there : Draft → PairLine → Bool
+is_there d l = nat_lt l.first d.opening.items && (nat_lt l.second d.opening.items && nat_lt l.option (slice_index d.counts l.first))
+
 -- after the last option of a pair any later pair may come, from its option 0 on
 abbrev pub is_turn : Due → PairLine → Bool
 is_turn e l =
@@ -67,8 +71,7 @@ abbrev pub pair : Draft → ℕ → Option PairLine → Result Draft Refusal
 pair d k None = Err (Malformed k)
 pair d k (Some l) =
     if nat_lt l.second d.opening.items && not (length l.partners == slice_index d.counts l.second) then Err (Malformed k)
-    else if not (nat_lt l.first d.opening.items && (nat_lt l.second d.opening.items && nat_lt l.option (slice_index d.counts l.first))) then
-    Err (OutOfLimits k)
+    else if not (is_there d l) then Err (OutOfLimits k)
     else if not (is_turn d.due l) then Err (OutOfTurn k)
     else Ok (with_row d l)
 
