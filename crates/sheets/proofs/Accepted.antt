@@ -1,133 +1,122 @@
 -- An accepted sheet is the text of the junction that was read, which the grid book's check accepts.
-use Rattle.std.proofs.Common.{◌≡◌, ℕ, zero, ◌+◌, ◌^◌, ◌<◌, ◌≤◌, Bool, true, false, not, ◌&&◌, eqb, ltb, leb, ◌⊎◌, List, [], ◌∷◌, ◌++◌, map, length, get_or, Ok, decimal, sym, refl, ap, ◌∙◌, subst, inl, inr, append-nil, arith}
+use Rattle.std.proofs.Common.{◌≡◌, ℕ, zero, ◌+◌, ◌^◌, ◌<◌, ◌≤◌, Bool, true, false, not, ◌&&◌, ltb, leb, ◌⊎◌, List, [], ◌∷◌, ◌++◌, map, length, get_or, Ok, sym, refl, ap, ◌∙◌, subst, inl, inr, append-nil, arith}
 use Rattle.std.specs.List.{range_with_len, flat_map}
 use Rattle.std.proofs.lemmas.List.{length-replicate, nil_from_length}
 use Rattle.std.proofs.lemmas.Bool.{and_parts, and_from, cases_lt, cases_eq, cases_order, cases_Bool, cond-true, cond-false, eqb-true, ltb-true, leb-true, lt-ltb, le-leb, eq-eqb}
 use Rattle.std.proofs.lemmas.Bool.Decides.{nat_tests}
 use Rattle.bits.specs.Below.{every}
-use Rattle.bits.specs.Bits.{bit}
 use Rattle.bits.proofs.Belows.{every_i, every_at}
 use Rattle.bits.proofs.Tests.{to_true, of_true}
 use Rattle.bits.proofs.Words.{high_bit, some_bit}
-use Rattle.meaning.specs.Grid.{contents_right, link_bit, link_right, links_right, place, row_right, rows_for, rows_right, same, sizes_right}
-use Rattle.meaning.specs.Limits.{count_right, counts_right, limits_right, within}
+use Rattle.meaning.specs.Grid.{contents_right, link_bit, link_right, links_right, row_right, rows_for, rows_right, same}
+use Rattle.meaning.specs.Limits.{counts_right}
 use Rattle.sheets.specs.declared.draft.Draft.{Draft}
+use Rattle.sheets.specs.declared.draft.Opening.{Opening}
 use Rattle.sheets.specs.Fields.{cut}
-use Rattle.sheets.specs.Texts.{ended, lines_of, is_right, sheet_of, text_of, opening_names, item_names, item_line, pair_names, pair_lines}
-use Rattle.sheets.specs.Reading.{closing, follow, opening_of, start, step, is_whole}
+use Rattle.sheets.specs.Texts.{opening_right, all_pair_lines, ended, lines_of, is_right, sheet_of, text_of, opening_line, opening_names, item_names, item_line, pair_names}
+use Rattle.sheets.specs.Reading.{closing, follow, start, is_whole}
 use Rattle.sheets.specs.Law.{Accepted, BlankElse, OnlyTexts}
 use Rattle.sheets.proofs.Cutting.{cut_joins}
 use Rattle.sheets.proofs.Drafted.{Drafted}
-use Rattle.sheets.proofs.Forms.{opening_only}
+use Rattle.sheets.proofs.Right.{opening_parts}
 use Rattle.sheets.proofs.Sound.{Items, sound_items, nothing_at}
-use Rattle.sheets.proofs.Steps.{cond_in, names_ok, opened, opening_ok, then_ok}
+use Rattle.sheets.proofs.Steps.{cond_in, names_step, opened, opening_step, then_ok}
 
 -- the first lines
-pub starts : (f : ℕ × ℕ × ℕ) → within f.0 9999 ≡ true → within f.1 9999 ≡ true → within f.2 32 ≡ true → Items (opened start f) 0
+pub starts : (o : Opening) → opening_right o ≡ true → Items (opened start o) 0
 unfolding start
-starts f a b c = record {
-  asked_in = a;
-  limits_in = and_from (within f.2 32) (within f.1 9999) c b;
-  items_most = leb-true f.2 32 (and_parts (leb 1 f.2) (leb f.2 32) c).1;
+starts o h = record {
+  opening_in = h;
+  items_most = (opening_parts o h).2;
   counts_long = length-replicate 32 zero;
   counts_in = λ x l. absurd (omega arith);
   counts_past = λ x l. nothing_at 32 x;
   no_links = refl;
   no_rows = refl;
-  no_pair = refl;
-  no_option = refl;
+  first_due = refl;
 }
-
-too_short : {X : Type 0} (n k : ℕ) → k ≤ 4 → ltb (4 + n) k ≡ true → X
-too_short n k l w = absurd (omega (arith, ltb-true (4 + n) k w))
 
 pub record Read (ls : List (List ℕ)) (c : Draft) : Type 0 where
   pub drafted : Drafted c
   pub text : ls ≡ lines_of (sheet_of c)
 
-pub sound_lines : (ls : List (List ℕ)) (c : Draft) → follow start 1 ls ≡ Ok c → ltb (4 + c.items) (1 + length ls) ≡ true → c.option ≡ 0 → Read ls c
-sound_lines [] c f w o = too_short c.items (1 + length {A = List ℕ} []) (omega arith) w
-sound_lines (x ∷ []) c f w o = too_short c.items (1 + length (x ∷ [])) (omega arith) w
-sound_lines (x ∷ y ∷ []) c f w o = too_short c.items (1 + length (x ∷ y ∷ [])) (omega arith) w
+pub sound_lines : (ls : List (List ℕ)) (c : Draft) → follow start 1 ls ≡ Ok c → 4 + c.opening.items < 1 + length ls → c.due.option ≡ 0 → Read ls c
+sound_lines [] c f w o = absurd (omega arith)
+sound_lines (x ∷ []) c f w o = absurd (omega arith)
+sound_lines (x ∷ y ∷ []) c f w o = absurd (omega arith)
 sound_lines (x ∷ y ∷ z ∷ ls) c f w o =
-    let r = then_ok (step start 1 x) (λ b. follow b 2 (y ∷ z ∷ ls)) c f in
-    let p = names_ok start 1 opening_names x r.0 r.1 in
-    let s = then_ok (step r.0 2 y) (λ b. follow b 3 (z ∷ ls)) c r.2 in
-    let q = opening_ok r.0 2 (opening_of y) s.0 s.1 in
-    let t = then_ok (step s.0 3 z) (λ b. follow b 4 ls) c s.2 in
-    let u = names_ok s.0 3 item_names z t.0 t.1 in
-    let d : opened start q.0 ≡ t.0 = ap (λ (b : Draft). opened b q.0) p.1 ∙ q.5 ∙ u.1 in
-    let w' : ltb (4 + c.items) (4 + 0 + length ls) ≡ true = ap (λ (k : ℕ). ltb (4 + c.items) k) (omega arith) ∙ w in
-    let v = sound_items q.0.2 (opened start q.0) 0 ls c (starts q.0 q.2 q.3 q.4) (omega arith) (ap (λ (b : Draft). follow b 4 ls) d ∙ t.2) w' o in
-    let opening : y ≡ decimal c.asked ++ (44 ∷ (decimal c.edition ++ (44 ∷ decimal c.items))) =
-    opening_only y q.0 q.1 ∙ (λ n. decimal (sym v.fixed.asked n) ++ (44 ∷ (decimal (sym v.fixed.edition n) ++ (44 ∷ decimal (sym v.fixed.items n))))) in
+    let p = names_step start 1 opening_names x (y ∷ z ∷ ls) c refl f in
+    let q = opening_step start y (z ∷ ls) c p.1 in
+    let u = names_step (opened start q.0) 3 item_names z ls c refl q.3 in
+    let v = sound_items q.0.items (opened start q.0) 0 4 ls c (starts q.0 q.2) (omega arith) (omega arith) u.1 (omega arith) o in
     record {
       drafted = v.drafted;
-      text = λ n. p.0 n ∷ opening n ∷ u.0 n ∷ (v.text ∙ ap (λ (k : ℕ). map (item_line (sheet_of c)) (range_with_len 0 k) ++ (pair_names ∷ flat_map (pair_lines (sheet_of c)) (range_with_len 0 1024))) (sym v.fixed.items)) n;
+      text = λ n. p.0 n ∷ (q.1 ∙ ap opening_line (sym v.fixed.opening)) n ∷ u.0 n
+          ∷ (v.text ∙ ap (λ (o : Opening). map (item_line (sheet_of c)) (range_with_len 0 o.items) ++ (pair_names ∷ all_pair_lines (sheet_of c))) (sym v.fixed.opening)) n;
     }
 
 -- what was read is right
 module _ (c : Draft) (h : Drafted c) where
-  counts_right_now : counts_right c.items c.counts ≡ true
+  counts_right_now : counts_right c.opening.items c.counts ≡ true
   counts_right_now =
-      to_true (every c.items (count_right c.counts))
-      (every_i c.items (count_right c.counts) (λ i l. let b = h.counts_in i l in of_true (and_from (leb 1 (get_or c.counts i 0)) (leb (get_or c.counts i 0) 32) (le-leb 1 (get_or c.counts i 0) b.0) (le-leb (get_or c.counts i 0) 32 b.1))))
+      to_true _
+      (every_i _ _ (λ i l. let b = h.counts_in i l in of_true (and_from _ _ (le-leb _ _ b.0) (le-leb _ _ b.1))))
 
-  word_in : (i : ℕ) → i < c.items → get_or c.links i 0 < 2 ^ c.items
+  word_in : (i : ℕ) → i < c.opening.items → get_or c.links i 0 < 2 ^ c.opening.items
   word_in i l =
-      elim (cases_lt (get_or c.links i 0) (2 ^ c.items)) [
+      elim (cases_lt (get_or c.links i 0) (2 ^ c.opening.items)) [
         | inl less ↦ less
-        | inr more ↦ let b = high_bit (get_or c.links i 0) c.items more in absurd (omega (arith, h.linked_in i b.0 (omega (arith, b.1)) (to_true (bit (get_or c.links i 0) b.0) b.2), b.1))
+        | inr more ↦ let b = high_bit (get_or c.links i 0) c.opening.items more in absurd (omega (arith, h.linked_in i b.0 (omega (arith, b.1)) (to_true _ b.2), b.1))
       ]
 
   same_yes : (x y : Bool) → x ≡ y → same x y ≡ true
   same_yes true y e = sym e
   same_yes false y e = ap not (sym e)
 
-  link_right_now : (i : ℕ) → i < c.items → link_right c.items c.links i ≡ true
+  link_right_now : (i : ℕ) → i < c.opening.items → link_right c.opening.items c.links i ≡ true
   link_right_now i l =
-      and_from (ltb (get_or c.links i 0) (2 ^ c.items) && not (link_bit c.links i i)) (every c.items (λ j. same (link_bit c.links i j) (link_bit c.links j i)))
-      (and_from (ltb (get_or c.links i 0) (2 ^ c.items)) (not (link_bit c.links i i)) (lt-ltb (get_or c.links i 0) (2 ^ c.items) (word_in i l)) (ap not (h.own i)))
-      (to_true (every c.items (λ j. same (link_bit c.links i j) (link_bit c.links j i)))
-      (every_i c.items (λ j. same (link_bit c.links i j) (link_bit c.links j i)) (λ j k. of_true (same_yes (link_bit c.links i j) (link_bit c.links j i) (h.mutual_links i j)))))
+      and_from _ _
+      (and_from _ _ (lt-ltb _ _ (word_in i l)) (ap not (h.own i)))
+      (to_true _
+      (every_i _ _ (λ j k. of_true (same_yes (link_bit c.links i j) (link_bit c.links j i) (h.mutual_links i j)))))
 
-  links_right_now : links_right c.items c.links ≡ true
-  links_right_now = to_true (every c.items (link_right c.items c.links)) (every_i c.items (link_right c.items c.links) (λ i l. of_true (link_right_now i l)))
+  links_right_now : links_right c.opening.items c.links ≡ true
+  links_right_now = to_true _ (every_i _ _ (λ i l. of_true (link_right_now i l)))
 
-  row_right_now : (j i a : ℕ) → j < c.items → i < j → a < 32 → row_right c.counts c.links c.rows j i a ≡ true
+  row_right_now : (j i a : ℕ) → j < c.opening.items → i < j → a < 32 → row_right c.counts c.links c.rows j i a ≡ true
   row_right_now j i a l k m =
       elim (cases_Bool (link_bit c.links i j && ltb a (get_or c.counts i 0))) [
         | inl yes' ↦
-            cond-true (link_bit c.links i j && ltb a (get_or c.counts i 0)) (ltb (get_or c.rows (place i a j) 0) (2 ^ get_or c.counts j 0)) (eqb (get_or c.rows (place i a j) 0) 0) yes'
-            ∙ lt-ltb (get_or c.rows (place i a j) 0) (2 ^ get_or c.counts j 0) (h.rows_small i a j k l m)
+            cond-true _ _ _ yes'
+            ∙ lt-ltb _ _ (h.rows_small i a j k l m)
         | inr not' ↦
             let free : (link_bit c.links i j ≡ false) ⊎ (get_or c.counts i 0 ≤ a) =
             elim (cases_Bool (link_bit c.links i j)) [ inl t ↦ inr (grind (arith, nat_tests)) | inr f ↦ inl f ] in
-            cond-false (link_bit c.links i j && ltb a (get_or c.counts i 0)) (ltb (get_or c.rows (place i a j) 0) (2 ^ get_or c.counts j 0)) (eqb (get_or c.rows (place i a j) 0) 0) not'
-            ∙ eq-eqb (get_or c.rows (place i a j) 0) 0 (h.rows_free i a j k l m free)
+            cond-false _ _ _ not'
+            ∙ eq-eqb _ _ (h.rows_free i a j k l m free)
       ]
 
-  rows_right_now : rows_right c.items c.counts c.links c.rows ≡ true
+  rows_right_now : rows_right c.opening.items c.counts c.links c.rows ≡ true
   rows_right_now =
-      to_true (rows_right c.items c.counts c.links c.rows)
-      (every_i c.items (λ j. every j (λ i. every 32 (row_right c.counts c.links c.rows j i))) (λ j l.
-      every_i j (λ i. every 32 (row_right c.counts c.links c.rows j i)) (λ i k.
-      every_i 32 (row_right c.counts c.links c.rows j i) (λ a m. of_true (row_right_now j i a l k m)))))
+      to_true _
+      (every_i _ _ (λ j l.
+      every_i _ _ (λ i k.
+      every_i _ _ (λ a m. of_true (row_right_now j i a l k m)))))
 
-  contents_now : contents_right c.items c.counts c.links c.rows ≡ true
+  contents_now : contents_right c.opening.items c.counts c.links c.rows ≡ true
   contents_now =
-      and_from (counts_right c.items c.counts) (links_right c.items c.links && rows_right c.items c.counts c.links c.rows) counts_right_now
-      (and_from (links_right c.items c.links) (rows_right c.items c.counts c.links c.rows) links_right_now rows_right_now)
+      and_from _ _ counts_right_now
+      (and_from _ _ links_right_now rows_right_now)
 
-  links_past : (i : ℕ) → c.items ≤ i → get_or c.links i 0 ≡ 0
+  links_past : (i : ℕ) → c.opening.items ≤ i → get_or c.links i 0 ≡ 0
   links_past i l =
       elim (cases_eq (get_or c.links i 0) 0) [
         | inl none ↦ none
         | inr more ↦
             let b = some_bit (get_or c.links i 0) more in
-            let t = to_true (bit (get_or c.links i 0) b.0) b.1 in
+            let t : link_bit c.links i b.0 ≡ true = to_true _ b.1 in
             absurd (elim (cases_order i b.0) [
-              | inl e ↦ (let f : link_bit c.links i i ≡ true = ap (λ (k : ℕ). link_bit c.links i k) e ∙ t in let g = h.own i in let z : ◌≡◌ {A = ℕ} 0 1 = cc in omega arith)
+              | inl e ↦ cc (ap (λ (k : ℕ). link_bit c.links i k) e ∙ t, h.own i)
               | inr other ↦ elim other [
                 | inl up ↦ omega (arith, h.linked_in i b.0 up t)
                 | inr down ↦ omega (arith, h.linked_in b.0 i down (h.mutual_links b.0 i ∙ t))
@@ -140,27 +129,26 @@ module _ (c : Draft) (h : Drafted c) where
 
 rows_enough : (n : ℕ) → n ≤ 32 → rows_for n ≤ 15872
 unfolding every
-rows_enough n l = leb-true (rows_for n) 15872 (every_at 33 (λ k. leb (rows_for k) 15872) refl n (omega arith))
+rows_enough n l = leb-true _ _ (every_at 33 (λ k. leb (rows_for k) 15872) refl n (omega arith))
 
 pub right_now : (c : Draft) → Drafted c → is_right (sheet_of c) ≡ true
 right_now c h =
-    and_from (within c.asked 9999 && limits_right c.edition c.items) (sizes_right c.items c.counts c.links c.rows && contents_right c.items c.counts c.links c.rows)
-    (and_from (within c.asked 9999) (limits_right c.edition c.items) h.asked_in h.limits_in)
-    (and_from (sizes_right c.items c.counts c.links c.rows) (contents_right c.items c.counts c.links c.rows)
-    (and_from (leb c.items (length c.counts) && leb c.items (length c.links)) (leb (rows_for c.items) (length c.rows))
-    (and_from (leb c.items (length c.counts)) (leb c.items (length c.links)) (le-leb c.items (length c.counts) (omega (arith, h.items_most, h.counts_long))) (le-leb c.items (length c.links) (omega (arith, h.items_most, h.links_long))))
-    (le-leb (rows_for c.items) (length c.rows) (subst (λ (n : ℕ). rows_for c.items ≤ n) (sym h.rows_long) (rows_enough c.items h.items_most))))
+    and_from _ _ h.opening_in
+    (and_from _ _
+    (and_from _ _
+    (and_from _ _ (le-leb c.opening.items (length c.counts) (omega (arith, h.items_most, h.counts_long))) (le-leb c.opening.items (length c.links) (omega (arith, h.items_most, h.links_long))))
+    (le-leb (rows_for c.opening.items) (length c.rows) (subst (λ (n : ℕ). rows_for c.opening.items ≤ n) (sym h.rows_long) (rows_enough c.opening.items h.items_most))))
     (contents_now c h))
 
 pub only_texts : OnlyTexts
 only_texts b d e =
-    let r = then_ok (follow start 1 (cut b).0) (closing (1 + length (cut b).0) (cut b).1) d e in
-    let p = cond_in (is_whole r.0 (1 + length (cut b).0) (cut b).1) (Ok r.0) _ d r.2 in
+    let r = then_ok (follow start 1 (cut b).lines) (closing (1 + length (cut b).lines) (cut b).rest) d e in
+    let p = cond_in (is_whole r.0 (1 + length (cut b).lines) (cut b).rest) (Ok r.0) _ d r.2 in
     let is : r.0 ≡ d = let z = p.1 in cc in
-    let q = and_parts (eqb (length (cut b).1) 0) (ltb (4 + r.0.items) (1 + length (cut b).0) && eqb r.0.option 0) p.0 in
-    let w = and_parts (ltb (4 + r.0.items) (1 + length (cut b).0)) (eqb r.0.option 0) q.1 in
-    let v = sound_lines (cut b).0 r.0 r.1 w.0 (eqb-true r.0.option 0 w.1) in
-    let none : (cut b).1 ≡ [] = nil_from_length (cut b).1 (eqb-true (length (cut b).1) 0 q.0) in
+    let q = and_parts _ _ p.0 in
+    let w = and_parts _ _ q.1 in
+    let v = sound_lines (cut b).lines r.0 r.1 (ltb-true _ _ w.0) (eqb-true _ _ w.1) in
+    let none : (cut b).rest ≡ [] = nil_from_length (cut b).rest (eqb-true _ _ q.0) in
     let text : b ≡ text_of (sheet_of r.0) =
-    sym (cut_joins b) ∙ ap (λ (x : List ℕ). flat_map ended (cut b).0 ++ x) none ∙ append-nil (flat_map ended (cut b).0) ∙ ap (flat_map ended) v.text in
+    sym (cut_joins b) ∙ ap (λ (x : List ℕ). flat_map ended (cut b).lines ++ x) none ∙ append-nil (flat_map ended (cut b).lines) ∙ ap (flat_map ended) v.text in
     subst (Accepted b) is (record { text = text; right = right_now r.0 v.drafted; blank = blank_now r.0 v.drafted })

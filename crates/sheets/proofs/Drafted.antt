@@ -1,278 +1,65 @@
--- What holds of a draft once its items are read, and that every accepted pair line keeps it.
--- Done d q: the lines of the pair q were given, or some of them
--- up_to s q a: the pair lines before the option a of the pair q
-use Rattle.std.proofs.Common.{◌≡◌, ℕ, ◌+◌, ◌-◌, ◌*◌, ◌^◌, ◌<◌, ◌≤◌, Bool, true, false, ◌&&◌, ◌||◌, eqb, ltb, ◌≢◌, ◌⊎◌, List, [], ◌∷◌, ◌++◌, map, length, get_or, decimal, sym, ap, ◌∙◌, subst, inl, inr, ⊎_elim, append_assoc, append-nil, arith}
+-- What holds of a draft once its items are read.
+-- Done e q: the lines of the pair q were given, or some of them, where e is due
+-- up_to s e: the pair lines before e
+use Rattle.std.proofs.Common.{◌≡◌, ℕ, ◌+◌, ◌*◌, ◌^◌, ◌<◌, ◌≤◌, true, false, ◌⊎◌, List, [], ◌++◌, map, length, get_or, inl, inr, ⊎_elim, arith}
 use Rattle.std.specs.List.{range_with_len, flat_map}
-use Rattle.std.proofs.lemmas.List.FromFn.{map-range_with_len_more}
-use Rattle.std.proofs.lemmas.List.{get_or-set_same, get_or-set_other, length-set}
-use Rattle.std.proofs.lemmas.Bool.{cases_lt, cases_eq, cases_Bool, cond-true, cond-false, cond_both, lt-ltb, le-ltb}
+use Rattle.std.proofs.lemmas.Bool.{cases_lt, cases_Bool, cond-false}
 use Rattle.std.proofs.lemmas.Bool.Decides.{nat_tests}
 use Rattle.meaning.specs.Grid.{link_bit, place, rows_for}
-use Rattle.meaning.specs.Limits.{limits_right, within}
-use Rattle.meaning.proofs.Starts.{pair_within}
 use Rattle.sheets.specs.declared.draft.Draft.{Draft}
-use Rattle.sheets.specs.Fields.{are_bits, partners, word_of}
-use Rattle.sheets.specs.Texts.{Sheet, sheet_of, first, second, is_given, pair_line, pair_lines, ◌·◌}
-use Rattle.sheets.specs.Reading.{with_row}
-use Rattle.sheets.proofs.Joins.{join_next, join_same, join_skip}
-use Rattle.sheets.proofs.Partners.{map_same, word_small, partners_only}
-use Rattle.sheets.proofs.Places.{first_of, second_of, place_apart, links_set, links_length}
+use Rattle.sheets.specs.declared.draft.Due.{Due}
+use Rattle.sheets.specs.Texts.{opening_right, Sheet, sheet_of, first, second, is_given, pair_line, pair_lines}
+use Rattle.sheets.proofs.Places.{whole_pair}
 
-abbrev pub Done : Draft → ℕ → Type 0
-Done d q = (q < d.pair) ⊎ ((q ≡ d.pair) × (0 < d.option))
+abbrev pub Done : Due → ℕ → Type 0
+Done e q = (q < e.pair) ⊎ ((q ≡ e.pair) × (0 < e.option))
 
 -- the pair whose lines are not all given yet
 pub record Begun (d : Draft) : Type 0 where
   pub i : ℕ
   pub j : ℕ
   pub low : i < j
-  pub there : j < d.items
-  pub is : d.pair ≡ 32 * i + j
-  pub more : d.option < get_or d.counts i 0
+  pub there : j < d.opening.items
+  pub is : d.due.pair ≡ 32 * i + j
+  pub more : d.due.option < get_or d.counts i 0
 
 pub record Drafted (d : Draft) : Type 0 where
-  pub asked_in : within d.asked 9999 ≡ true
-  pub limits_in : limits_right d.edition d.items ≡ true
-  pub items_most : d.items ≤ 32
+  pub opening_in : opening_right d.opening ≡ true
+  pub items_most : d.opening.items ≤ 32
   pub counts_long : length d.counts ≡ 32
   pub links_long : length d.links ≡ 32
   pub rows_long : length d.rows ≡ 15872
-  pub counts_in : (i : ℕ) → i < d.items → (1 ≤ get_or d.counts i 0) × (get_or d.counts i 0 ≤ 32)
-  pub counts_past : (i : ℕ) → d.items ≤ i → get_or d.counts i 0 ≡ 0
+  pub counts_in : (i : ℕ) → i < d.opening.items → (1 ≤ get_or d.counts i 0) × (get_or d.counts i 0 ≤ 32)
+  pub counts_past : (i : ℕ) → d.opening.items ≤ i → get_or d.counts i 0 ≡ 0
   pub own : (i : ℕ) → link_bit d.links i i ≡ false
   pub mutual_links : (i j : ℕ) → link_bit d.links i j ≡ link_bit d.links j i
-  pub linked_in : (i j : ℕ) → i < j → link_bit d.links i j ≡ true → j < d.items
-  pub linked_done : (i j : ℕ) → i < j → link_bit d.links i j ≡ true → Done d (32 * i + j)
-  pub pair_most : d.pair ≤ 1024
-  pub begun : 0 < d.option → Begun d
-  pub rows_past : (k : ℕ) → rows_for d.items ≤ k → get_or d.rows k 0 ≡ 0
-  pub rows_small : (i a j : ℕ) → i < j → j < d.items → a < 32 → get_or d.rows (place i a j) 0 < 2 ^ get_or d.counts j 0
-  pub rows_free : (i a j : ℕ) → i < j → j < d.items → a < 32 → (link_bit d.links i j ≡ false) ⊎ (get_or d.counts i 0 ≤ a) → get_or d.rows (place i a j) 0 ≡ 0
+  pub linked_in : (i j : ℕ) → i < j → link_bit d.links i j ≡ true → j < d.opening.items
+  pub linked_done : (i j : ℕ) → i < j → link_bit d.links i j ≡ true → Done d.due (32 * i + j)
+  pub pair_most : d.due.pair ≤ 1024
+  pub begun : 0 < d.due.option → Begun d
+  pub rows_past : (k : ℕ) → rows_for d.opening.items ≤ k → get_or d.rows k 0 ≡ 0
+  pub rows_small : (i a j : ℕ) → i < j → j < d.opening.items → a < 32 → get_or d.rows (place i a j) 0 < 2 ^ get_or d.counts j 0
+  pub rows_free : (i a j : ℕ) → i < j → j < d.opening.items → a < 32 → (link_bit d.links i j ≡ false) ⊎ (get_or d.counts i 0 ≤ a) → get_or d.rows (place i a j) 0 ≡ 0
 
-abbrev pub up_to : Sheet → ℕ → ℕ → List (List ℕ)
-up_to s q a = flat_map (pair_lines s) (range_with_len 0 q) ++ map (pair_line s q) (range_with_len 0 a)
+abbrev pub up_to : Sheet → Due → List (List ℕ)
+up_to s e = flat_map (pair_lines s) (range_with_len 0 e.pair) ++ map (pair_line s e.pair) (range_with_len 0 e.option)
 
 pub count_most : (d : Draft) → Drafted d → (i : ℕ) → get_or d.counts i 0 ≤ 32
 count_most d h i =
-    elim (cases_lt i d.items) [
+    elim (cases_lt i d.opening.items) [
       | inl less ↦ (h.counts_in i less).1
       | inr past ↦ omega (arith, h.counts_past i past)
     ]
 
-pub linked_no : (d : Draft) → Drafted d → (i j : ℕ) → i < j → (Done d (32 * i + j) → ⊥) → link_bit d.links i j ≡ false
+pub linked_no : (d : Draft) → Drafted d → (i j : ℕ) → i < j → (Done d.due (32 * i + j) → ⊥) → link_bit d.links i j ≡ false
 linked_no d h i j l undone = elim (cases_Bool (link_bit d.links i j)) [ inl t ↦ absurd (undone (h.linked_done i j l t)) | inr f ↦ f ]
 
--- a line of the pair q of items i < j, for the option a of i, with the partners bs
-module _ (d : Draft) (h : Drafted d) (i j a : ℕ) (bs : List ℕ)
-    (low : i < j) (there : j < d.items) (an_option : a < get_or d.counts i 0) (long : length bs ≡ get_or d.counts j 0) (zeros : are_bits bs ≡ true)
-    (due : a ≡ d.option) (turn : ((d.option ≡ 0) × (d.pair ≤ 32 * i + j)) ⊎ (d.pair ≡ 32 * i + j)) where
-  abbrev w : ℕ
-  w = word_of bs
-
-  abbrev q : ℕ
-  q = 32 * i + j
-
-  abbrev pub next : Draft
-  next = with_row d i j a w
-
-  abbrev s : Sheet
-  s = sheet_of d
-
-  abbrev t : Sheet
-  t = sheet_of next
-
-  j_most : j < 32
-  j_most = omega (arith, h.items_most)
-
-  a_most : a < 32
-  a_most = omega (arith, count_most d h i)
-
-  pub links_now : (x y : ℕ) → link_bit next.links x y ≡ ((link_bit d.links x y || (eqb i x && eqb j y)) || (eqb j x && eqb i y))
-  links_now x y = links_set d.links i j (omega (arith, h.links_long, h.items_most)) (omega (arith, h.links_long, h.items_most)) x y
-
-  place_in : place i a j < length d.rows
-  place_in = let p = pair_within 32 j i j_most low in omega (arith, h.rows_long, a_most)
-
-  pub row_now : get_or next.rows (place i a j) 0 ≡ w
-  row_now = get_or-set_same d.rows (place i a j) w 0 place_in
-
-  pub row_other : (k : ℕ) → k ≢ place i a j → get_or next.rows k 0 ≡ get_or d.rows k 0
-  row_other k ne = get_or-set_other d.rows (place i a j) k w 0 ne
-
-  before : d.pair ≤ q
-  before = ⊎_elim (λ z. z.1) (λ z. omega arith) turn
-
-  ends : (x : ℕ) → x ≤ q → Done next x
-  ends x l =
-      elim (cases_lt (a + 1) (get_or d.counts i 0)) [
-        | inl more ↦
-            let p : next.pair ≡ q = cond-true (ltb (a + 1) (get_or d.counts i 0)) q (q + 1) (lt-ltb (a + 1) (get_or d.counts i 0) more) in
-            let o : next.option ≡ a + 1 = cond-true (ltb (a + 1) (get_or d.counts i 0)) (a + 1) 0 (lt-ltb (a + 1) (get_or d.counts i 0) more) in
-            elim (cases_eq x q) [
-              | inl same ↦ inr (same ∙ sym p, omega (arith, o))
-              | inr other ↦ inl (omega (arith, p, other))
-            ]
-        | inr last ↦
-            let p : next.pair ≡ q + 1 = cond-false (ltb (a + 1) (get_or d.counts i 0)) q (q + 1) (le-ltb (a + 1) (get_or d.counts i 0) last) in
-            inl (omega (arith, p))
-      ]
-
-  next_pair : next.pair ≤ q + 1
-  next_pair = cond_both (ltb (a + 1) (get_or d.counts i 0)) q (q + 1) (λ (x : ℕ). x ≤ q + 1) (λ _. omega arith) (λ _. omega arith)
-
-  done_more : (x : ℕ) → Done d x → Done next x
-  done_more x z = ends x (⊎_elim (λ l. omega (arith, before)) (λ l. omega (arith, before, l.0)) z)
-
-  linked_still : (x y : ℕ) → x < y → link_bit next.links x y ≡ true → (link_bit d.links x y ≡ true) ⊎ ((x ≡ i) × (y ≡ j))
-  linked_still x y l e =
-      elim (cases_Bool (link_bit d.links x y)) [
-        | inl old ↦ inl old
-        | inr new ↦
-            let n = links_now x y in
-            inr (grind (arith, nat_tests), grind (arith, nat_tests))
-      ]
-
-  linked_before : (x y : ℕ) → link_bit next.links x y ≡ false → link_bit d.links x y ≡ false
-  linked_before x y e = let n = links_now x y in grind (arith, nat_tests)
-
-  linked_here : link_bit next.links i j ≡ true
-  linked_here = let n = links_now i j in grind (arith, nat_tests)
-
-  same_place : (x b y : ℕ) → x < y → b < 32 → place x b y ≡ place i a j → (x ≡ i) × (b ≡ a) × (y ≡ j)
-  same_place x b y l k e = place_apart x b y i a j l low k a_most e
-
-  begun_next : 0 < next.option → Begun next
-  begun_next z =
-      elim (cases_lt (a + 1) (get_or d.counts i 0)) [
-        | inl more ↦
-            let t = lt-ltb (a + 1) (get_or d.counts i 0) more in
-            let o : next.option ≡ a + 1 = cond-true (ltb (a + 1) (get_or d.counts i 0)) (a + 1) 0 t in
-            record { i = i; j = j; low = low; there = there; is = cond-true (ltb (a + 1) (get_or d.counts i 0)) q (q + 1) t; more = omega (arith, o) }
-        | inr last ↦ absurd (let o : next.option ≡ 0 = cond-false (ltb (a + 1) (get_or d.counts i 0)) (a + 1) 0 (le-ltb (a + 1) (get_or d.counts i 0) last) in omega arith)
-      ]
-
-  pub drafted_next : Drafted next
-  drafted_next = record {
-    asked_in = h.asked_in;
-    limits_in = h.limits_in;
-    items_most = h.items_most;
-    counts_long = h.counts_long;
-    links_long = links_length d.links i j ∙ h.links_long;
-    rows_long = length-set d.rows (place i a j) w ∙ h.rows_long;
-    counts_in = h.counts_in;
-    counts_past = h.counts_past;
-    own = λ x. let n = links_now x x in let o = h.own x in grind (arith, nat_tests);
-    mutual_links = λ x y. let n = links_now x y in let o = links_now y x in let m = h.mutual_links x y in grind (arith, nat_tests);
-    linked_in = λ x y l e. ⊎_elim (h.linked_in x y l) (λ z. omega (arith, z.1)) (linked_still x y l e);
-    linked_done = λ x y l e. ⊎_elim (λ z. done_more (32 * x + y) (h.linked_done x y l z)) (λ z. ends (32 * x + y) (omega (arith, z.0, z.1))) (linked_still x y l e);
-    pair_most = omega (arith, next_pair, h.items_most);
-    begun = begun_next;
-    rows_past = λ k l. let p = pair_within d.items j i there low in row_other k (λ e. omega (arith, a_most)) ∙ h.rows_past k l;
-    rows_small = λ x b y l k m. elim (cases_eq (place x b y) (place i a j)) [
-      | inl e ↦
-          let z = same_place x b y l m e in
-          let c : get_or d.counts y 0 ≡ length bs = ap (λ (v : ℕ). get_or d.counts v 0) z.2 ∙ sym long in
-          subst (λ (v : ℕ). get_or next.rows (place x b y) 0 < 2 ^ v) (sym c) (subst (λ (v : ℕ). v < 2 ^ length bs) (sym (ap (λ (v : ℕ). get_or next.rows v 0) e ∙ row_now)) (word_small bs zeros))
-      | inr ne ↦ subst (λ (v : ℕ). v < 2 ^ get_or d.counts y 0) (sym (row_other (place x b y) ne)) (h.rows_small x b y l k m)
-    ];
-    rows_free = λ x b y l k m o. elim (cases_eq (place x b y) (place i a j)) [
-      | inl e ↦
-          let z = same_place x b y l m e in
-          ⊎_elim
-          (λ f. let g : link_bit next.links x y ≡ true = (λ n. link_bit next.links (z.0 n) (z.2 n)) ∙ linked_here in
-          let c : ◌≡◌ {A = Bool} true false = sym g ∙ f in absurd (let u : ◌≡◌ {A = ℕ} 0 1 = cc in omega arith))
-          (λ f. absurd (let c : get_or d.counts x 0 ≡ get_or d.counts i 0 = ap (λ (v : ℕ). get_or d.counts v 0) z.0 in omega (arith, z.1))) o
-      | inr ne ↦ row_other (place x b y) ne ∙ h.rows_free x b y l k m (⊎_elim (λ f. inl (linked_before x y f)) (λ f. inr f) o)
-    ];
-  }
-
-  whole_pair : (r : ℕ) → 32 * first r + second r ≡ r
-  whole_pair r = omega arith
-
-  given_same : (r : ℕ) → r ≢ q → is_given t r ≡ is_given s r
-  given_same r ne = let n = links_now (first r) (second r) in let e = whole_pair r in grind (arith, nat_tests)
-
-  pub given_here : is_given t q ≡ true
-  given_here =
-      let e : first q ≡ i = first_of i j j_most in
-      let f : second q ≡ j = second_of i j j_most in
-      (λ n. (ltb (e n) (f n) && ltb (f n) d.items) && link_bit next.links (e n) (f n)) ∙ (let l = linked_here in grind (arith, nat_tests))
-
-  line_same : (r b : ℕ) → first r < second r → b < 32 → (r ≡ q → b ≡ a → ⊥) → pair_line t r b ≡ pair_line s r b
-  line_same r b l k other =
-      let e = whole_pair r in
-      let away : place (first r) b (second r) ≢ place i a j = λ z. let y = same_place (first r) b (second r) l k z in other (omega (arith, y.0, y.2)) y.1 in
-      ap (λ (v : ℕ). decimal (first r) · (decimal (second r) · (decimal b · partners (get_or d.counts (second r) 0) v))) (row_other (place (first r) b (second r)) away)
-
-  given_low : (u : Sheet) (r : ℕ) → is_given u r ≡ true → first r < second r
-  given_low u r e = grind (arith, nat_tests)
-
-  lines_same : (r : ℕ) → r ≢ q → pair_lines t r ≡ pair_lines s r
-  lines_same r ne =
-      elim (cases_Bool (is_given s r)) [
-        | inl yes' ↦
-            cond-true (is_given t r) (map (pair_line t r) (range_with_len 0 (get_or d.counts (first r) 0))) [] (given_same r ne ∙ yes')
-            ∙ map_same (pair_line t r) (pair_line s r) 0 (get_or d.counts (first r) 0) (λ b l k. line_same r b (given_low s r yes') (omega (arith, count_most d h (first r))) (λ e _. ne e))
-            ∙ sym (cond-true (is_given s r) (map (pair_line s r) (range_with_len 0 (get_or d.counts (first r) 0))) [] yes')
-        | inr not' ↦
-            cond-false (is_given t r) (map (pair_line t r) (range_with_len 0 (get_or d.counts (first r) 0))) [] (given_same r ne ∙ not')
-            ∙ sym (cond-false (is_given s r) (map (pair_line s r) (range_with_len 0 (get_or d.counts (first r) 0))) [] not')
-      ]
-
-  -- what lies between the pair that may begin and the one that does is not linked
-  skipped : (r : ℕ) → d.option ≡ 0 → d.pair ≤ r → pair_lines s r ≡ []
-  skipped r o l =
-      let e = whole_pair r in
-      cond-false (is_given s r) (map (pair_line s r) (range_with_len 0 (get_or d.counts (first r) 0))) []
-      (elim (cases_lt (first r) (second r)) [
-        | inl less ↦ let f = linked_no d h (first r) (second r) less (⊎_elim (λ z. omega arith) (λ z. omega (arith, z.0, z.1))) in grind (arith, nat_tests)
-        | inr more ↦ grind (arith, nat_tests)
-      ])
-
-  before_same : flat_map (pair_lines t) (range_with_len 0 q) ≡ flat_map (pair_lines s) (range_with_len 0 q)
-  before_same = join_same (pair_lines t) (pair_lines s) 0 q (λ r l. lines_same r (λ e. omega arith))
-
-  seen_same : up_to t q a ≡ up_to s d.pair d.option
-  seen_same =
-      elim turn [
-        | inl z ↦
-            let m : q ≡ d.pair + (q - d.pair) = omega (arith, z.1) in
-            let zero_a : a ≡ 0 = due ∙ z.0 in
-            (λ n. before_same n ++ map (pair_line t q) (range_with_len 0 (zero_a n)))
-            ∙ ap (λ (v : List (List ℕ)). v ++ [])
-            (ap (λ (v : ℕ). flat_map (pair_lines s) (range_with_len 0 v)) m ∙ join_skip (pair_lines s) d.pair (q - d.pair) (λ r k l. skipped r z.0 k))
-            ∙ ap (λ (v : ℕ). up_to s d.pair v) (sym z.0)
-        | inr e ↦
-            (λ n. before_same n ++ map_same (pair_line t q) (pair_line s q) 0 a
-            (λ b l k. line_same q b (given_low t q given_here) (omega (arith, a_most)) (λ _ f. omega arith)) n)
-            ∙ (λ n. up_to s (sym e n) (due n))
-      ]
-
-  pub line_is : (l : List ℕ) → l ≡ decimal i · (decimal j · (decimal a · bs)) → l ≡ pair_line t q a
-  line_is l e =
-      let f : i ≡ first q = sym (first_of i j j_most) in
-      let g : j ≡ second q = sym (second_of i j j_most) in
-      let r : get_or next.rows (place (first q) a (second q)) 0 ≡ w = (λ n. get_or next.rows (place (sym f n) a (sym g n)) 0) ∙ row_now in
-      let b : bs ≡ partners (get_or d.counts (second q) 0) (get_or next.rows (place (first q) a (second q)) 0) =
-      partners_only bs zeros ∙ (λ n. partners ((long ∙ ap (λ (v : ℕ). get_or d.counts v 0) g) n) (sym r n)) in
-      e ∙ (λ n. decimal (f n) · (decimal (g n) · (decimal a · b n)))
-
-  pub seen_next : (ps : List (List ℕ)) (l : List ℕ) → ps ≡ up_to s d.pair d.option → l ≡ pair_line t q a → ps ++ l ∷ [] ≡ up_to t next.pair next.option
-  seen_next ps l e f =
-      let one : ps ++ l ∷ [] ≡ up_to t q (a + 1) =
-      (λ n. (e ∙ sym seen_same) n ++ f n ∷ []) ∙ append_assoc (flat_map (pair_lines t) (range_with_len 0 q)) (map (pair_line t q) (range_with_len 0 a)) (pair_line t q a ∷ [])
-      ∙ ap (λ (v : List (List ℕ)). flat_map (pair_lines t) (range_with_len 0 q) ++ v) (sym (map-range_with_len_more (pair_line t q) 0 a a (omega arith))) in
-      elim (cases_lt (a + 1) (get_or d.counts i 0)) [
-        | inl more ↦
-            let p : next.pair ≡ q = cond-true (ltb (a + 1) (get_or d.counts i 0)) q (q + 1) (lt-ltb (a + 1) (get_or d.counts i 0) more) in
-            let o : next.option ≡ a + 1 = cond-true (ltb (a + 1) (get_or d.counts i 0)) (a + 1) 0 (lt-ltb (a + 1) (get_or d.counts i 0) more) in
-            one ∙ (λ n. up_to t (sym p n) (sym o n))
-        | inr last ↦
-            let p : next.pair ≡ q + 1 = cond-false (ltb (a + 1) (get_or d.counts i 0)) q (q + 1) (le-ltb (a + 1) (get_or d.counts i 0) last) in
-            let o : next.option ≡ 0 = cond-false (ltb (a + 1) (get_or d.counts i 0)) (a + 1) 0 (le-ltb (a + 1) (get_or d.counts i 0) last) in
-            let c : a + 1 ≡ get_or d.counts (first q) 0 = omega (arith, ap (λ (v : ℕ). get_or d.counts v 0) (first_of i j j_most)) in
-            let b : map (pair_line t q) (range_with_len 0 (a + 1)) ≡ pair_lines t q =
-            ap (λ (v : ℕ). map (pair_line t q) (range_with_len 0 v)) c ∙ sym (cond-true (is_given t q) (map (pair_line t q) (range_with_len 0 (get_or d.counts (first q) 0))) [] given_here) in
-            one ∙ ap (λ (v : List (List ℕ)). flat_map (pair_lines t) (range_with_len 0 q) ++ v) b ∙ sym (join_next (pair_lines t) q)
-            ∙ sym (append-nil (flat_map (pair_lines t) (range_with_len 0 (q + 1)))) ∙ (λ n. up_to t (sym p n) (sym o n))
-      ]
+-- what lies between the pair that may begin and the one that does is not linked
+pub skipped : (d : Draft) → Drafted d → d.due.option ≡ 0 → (r : ℕ) → d.due.pair ≤ r → pair_lines (sheet_of d) r ≡ []
+skipped d h o r l =
+    let e = whole_pair r in
+    cond-false (is_given (sheet_of d) r) (map (pair_line (sheet_of d) r) (range_with_len 0 (get_or d.counts (first r) 0))) []
+    (elim (cases_lt (first r) (second r)) [
+      | inl less ↦ let f = linked_no d h (first r) (second r) less (⊎_elim (λ z. omega arith) (λ z. omega (arith, z.0, z.1))) in grind (arith, nat_tests)
+      | inr more ↦ grind (arith, nat_tests)
+    ])

@@ -1,125 +1,40 @@
 -- The laws of sheets.
-use Rattle.std.proofs.Common.{◌≡◌, ℕ, zero, suc, ◌+◌, ◌-◌, ◌*◌, ◌^◌, ◌<◌, ◌≤◌, Bool, true, false, cond, not, ◌&&◌, eqb, ltb, leb, List, [], ◌∷◌, ◌++◌, map, length, get_or, take, is_ok, Ok, Err, decimal, Result, sym, refl, ap, ◌∙◌, subst, inl, inr, arith}
+use Rattle.std.proofs.Common.{◌≡◌, ℕ, suc, ◌+◌, ◌-◌, ◌*◌, ◌^◌, ◌<◌, Bool, true, false, cond, ◌&&◌, ltb, leb, List, [], ◌∷◌, ◌++◌, map, length, get_or, take, is_ok, Ok, Err, decimal, Result, sym, refl, ap, ◌∙◌, subst, inl, inr, arith}
+use Rattle.std.specs.Result.{result_and}
 use Rattle.std.specs.List.{range_with_len, flat_map}
 use Rattle.std.proofs.lemmas.List.{length-append, take_all}
 use Rattle.std.proofs.lemmas.List.FromFn.{length-map-range_with_len}
-use Rattle.std.proofs.lemmas.Bool.{and_from, and_parts, cases_order, cases_Bool, cond-true, cond-false, eq-eqb, eqb-false, ltb-true, lt-ltb, leb-true, le-leb, not-true}
+use Rattle.std.proofs.lemmas.Bool.{and_from, and_parts, cases_order, cases_Bool, cond-true, cond-false, eq-eqb, ltb-true, lt-ltb, le-leb}
 use Rattle.std.proofs.lemmas.Bool.Decides.{nat_tests}
 use Rattle.bits.specs.Bits.{bit}
 use Rattle.meaning.specs.Grid.{contents_right, grid_check, link_bit, place, sizes_right}
 use Rattle.meaning.specs.Limits.{limits_right, within}
 use Rattle.meaning.specs.Refusals.{place_of}
 use Rattle.meaning.specs.declared.refusal.Refusal.{Refusal}
-use Rattle.meaning.specs.declared.refusal.Refusal.TheVariants.{Malformed, MemoryShort, OutOfLimits}
+use Rattle.meaning.specs.declared.refusal.Refusal.TheVariants.{MemoryShort, OutOfLimits}
 use Rattle.sheets.specs.declared.draft.Draft.{Draft}
-use Rattle.sheets.specs.Fields.{cut, partners}
-use Rattle.sheets.specs.Texts.{Sheet, Same, ended, first, is_given, item_line, item_names, lines_of, opening_line, opening_names, pair_line, pair_lines, pair_names, is_right, second, sheet_of, sheet_of_parts, text_of, ◌·◌}
-use Rattle.sheets.specs.Reading.{closing, follow, reading, start, then_lines, is_whole}
-use Rattle.sheets.specs.Writing.{fitting, then_text, writing}
+use Rattle.sheets.specs.declared.draft.Opening.{Opening}
+use Rattle.sheets.specs.Fields.{cut, partners, Cut}
+use Rattle.sheets.specs.Texts.{all_pair_lines, item_lines, Sheet, Same, ended, first, is_given, item_line, item_names, lines_of, opening_line, opening_names, pair_line, pair_lines, pair_names, is_right, second, sheet_of, sheet_of_parts, text_of, ◌·◌}
+use Rattle.sheets.specs.Reading.{closing, follow, reading, start, is_whole, ◌>>=◌}
+use Rattle.sheets.specs.Writing.{fitting, writing}
 use Rattle.sheets.specs.Law.{Checked, Faults, OnlyOne, ReadsBack, WrittenBack}
 use Rattle.sheets.proofs.Accepted.{only_texts, right_now, sound_lines}
 use Rattle.sheets.proofs.Agree.{given_yet}
 use Rattle.sheets.proofs.Complete.{Between, whole_text}
-use Rattle.sheets.proofs.Cutting.{AllFree, Free, all_free_append, cut_ended, decimal_free, free_append}
 use Rattle.sheets.proofs.Faulty.{closing_line, go_on, then_err, wrong_line}
 use Rattle.sheets.proofs.Joins.{join_same}
-use Rattle.sheets.proofs.Partners.{map_same, partners_free}
+use Rattle.sheets.proofs.Partners.{map_same}
 use Rattle.sheets.proofs.Right as right
-use Rattle.sheets.proofs.Steps.{follow_append}
-
--- no line has an end inside
-comma_free : (x y : List ℕ) → Free 10 x → Free 10 y → Free 10 (x · y)
-comma_free x y f g = free_append 10 x (44 ∷ y) f ((λ e. omega arith), g)
-
-small_free : (n : ℕ) → n < 10000 → Free 10 (decimal n)
-small_free n h = decimal_free 10 n (omega arith) (omega arith)
-
-map_free : (f : ℕ → List ℕ) (a n : ℕ) → ((x : ℕ) → a ≤ x → x < a + n → Free 10 (f x)) → AllFree 10 (map f (range_with_len a n))
-map_free f a zero h = tt
-map_free f a (suc n) h = (h a (omega arith) (omega arith), map_free f (a + 1) n (λ x l k. h x (omega arith) (omega arith)))
-
-join_free : (f : ℕ → List (List ℕ)) (a n : ℕ) → ((x : ℕ) → x < a + n → AllFree 10 (f x)) → AllFree 10 (flat_map f (range_with_len a n))
-join_free f a zero h = tt
-join_free f a (suc n) h = all_free_append 10 (f a) (flat_map f (range_with_len (a + 1) n)) (h a (omega arith)) (join_free f (a + 1) n (λ x l. h x (omega arith)))
-
-is_free : ℕ → List ℕ → Bool
-is_free sep [] = true
-is_free sep (b ∷ bs) = not (eqb b sep) && is_free sep bs
-
-free_yes : (sep : ℕ) (l : List ℕ) → is_free sep l ≡ true → Free sep l
-unfolding is_free
-free_yes sep [] e = tt
-free_yes sep (b ∷ bs) e =
-    let p = and_parts (not (eqb b sep)) (is_free sep bs) e in
-    (eqb-false b sep (not-true (eqb b sep) p.0), free_yes sep bs p.1)
-
-opening_names_free : Free 10 opening_names
-unfolding is_free
-opening_names_free = free_yes 10 opening_names refl
-
-item_names_free : Free 10 item_names
-unfolding is_free
-item_names_free = free_yes 10 item_names refl
-
-pair_names_free : Free 10 pair_names
-unfolding is_free
-pair_names_free = free_yes 10 pair_names refl
+use Rattle.sheets.proofs.Steps.{after_lines, same_items}
+use Rattle.sheets.proofs.Ended.{lines_cut}
+use Rattle.sheets.proofs.Places.{given_parts}
 
 module _ (s : Sheet) (ok : is_right s ≡ true) where
-  within_small : (x : ℕ) → within x 9999 ≡ true → x < 10000
-  within_small x w = omega (arith, leb-true x 9999 (and_parts (leb 1 x) (leb x 9999) w).1)
-
-  opening_free : Free 10 (opening_line s)
-  opening_free =
-      comma_free (decimal s.asked) (decimal s.edition · decimal s.items) (small_free s.asked (within_small s.asked (right.asked_in s ok)))
-      (comma_free (decimal s.edition) (decimal s.items) (small_free s.edition (within_small s.edition (right.edition_in s ok))) (small_free s.items (omega (arith, right.items_most s ok))))
-
-  item_free : (i : ℕ) → i < s.items → Free 10 (item_line s i)
-  item_free i l = comma_free (decimal i) (decimal (get_or s.counts i 0)) (small_free i (omega (arith, right.items_most s ok))) (small_free (get_or s.counts i 0) (omega (arith, right.count_most s ok i l)))
-
-  pair_free : (q a : ℕ) → q < 1024 → a < 32 → Free 10 (pair_line s q a)
-  pair_free q a l k =
-      let row = get_or s.rows (place (first q) a (second q)) 0 in
-      comma_free (decimal (first q)) _ (small_free (first q) (omega arith))
-      (comma_free (decimal (second q)) _ (small_free (second q) (omega arith))
-      (comma_free (decimal a) _ (small_free a (omega arith)) (partners_free 10 (get_or s.counts (second q) 0) (get_or s.rows (place (first q) a (second q)) 0) (omega arith))))
-
-  first_in : (q : ℕ) → is_given s q ≡ true → first q < s.items
-  first_in q e =
-      let p = (and_parts (ltb (first q) (second q) && ltb (second q) s.items) (link_bit s.links (first q) (second q)) e).0 in
-      let r = and_parts (ltb (first q) (second q)) (ltb (second q) s.items) p in
-      omega (arith, ltb-true (first q) (second q) r.0, ltb-true (second q) s.items r.1)
-
-  pairs_free : (q : ℕ) → q < 1024 → AllFree 10 (pair_lines s q)
-  pairs_free q l =
-      elim (cases_Bool (is_given s q)) [
-        | inl yes' ↦
-            subst (AllFree 10) (sym (cond-true (is_given s q) (map (pair_line s q) (range_with_len 0 (get_or s.counts (first q) 0))) [] yes'))
-            (map_free (pair_line s q) 0 (get_or s.counts (first q) 0) (λ a k m. pair_free q a l (omega (arith, right.count_most s ok (first q) (first_in q yes')))))
-        | inr not' ↦ subst (AllFree 10) (sym (cond-false (is_given s q) (map (pair_line s q) (range_with_len 0 (get_or s.counts (first q) 0))) [] not')) tt
-      ]
-
-  lines_free : AllFree 10 (lines_of s)
-  lines_free = (
-    opening_names_free,
-    (
-      opening_free,
-      (
-        item_names_free,
-        all_free_append 10 (map (item_line s) (range_with_len 0 s.items)) (pair_names ∷ flat_map (pair_lines s) (range_with_len 0 1024))
-            (map_free (item_line s) 0 s.items (λ i l k. item_free i (omega arith)))
-            (pair_names_free, join_free (pair_lines s) 0 1024 (λ q l. pairs_free q (omega arith))),
-      ),
-    ),
-  )
-
-  lines_cut : cut (text_of s) ≡ (lines_of s, [])
-  lines_cut = cut_ended (lines_of s) lines_free
-
-  long_enough : 4 + s.items < 1 + length (lines_of s)
+  long_enough : 4 + s.opening.items < 1 + length (lines_of s)
   long_enough =
-      let e = length-append (map (item_line s) (range_with_len 0 s.items)) (pair_names ∷ flat_map (pair_lines s) (range_with_len 0 1024)) in
-      let f = length-map-range_with_len (item_line s) 0 s.items in
+      let e = length-append (item_lines s) (pair_names ∷ all_pair_lines s) in
+      let f = length-map-range_with_len (item_line s) 0 s.opening.items in
       omega (arith, e, f)
 
   reached : Draft
@@ -132,26 +47,25 @@ module _ (s : Sheet) (ok : is_right s ≡ true) where
   read_so : reading (text_of s) ≡ Ok reached
   unfolding reached
   read_so =
-      let c = (whole_text s ok).0 in
       let b = (whole_text s ok).2 in
       let w : is_whole (whole_text s ok).0 (1 + length (lines_of s)) [] ≡ true =
-      and_from (ltb (4 + (whole_text s ok).0.items) (1 + length (lines_of s))) (eqb (whole_text s ok).0.option 0)
-      (lt-ltb (4 + (whole_text s ok).0.items) (1 + length (lines_of s)) (subst (λ (n : ℕ). 4 + n < 1 + length (lines_of s)) b.agree.items long_enough)) (eq-eqb (whole_text s ok).0.option 0 b.none) in
-      ap (λ (x : List (List ℕ) × List ℕ). then_lines (follow start 1 x.0) (closing (1 + length x.0) x.1)) lines_cut
-      ∙ ap (λ (x : Result Draft Refusal). then_lines x (closing (1 + length (lines_of s)) [])) (whole_text s ok).1
-      ∙ cond-true (is_whole (whole_text s ok).0 (1 + length (lines_of s)) []) (Ok (whole_text s ok).0) (Err (Malformed (1 + length (lines_of s)))) w
+      and_from _ _
+      (lt-ltb _ _ (subst (λ (o : Opening). 4 + o.items < 1 + length (lines_of s)) b.agree.opening long_enough)) (eq-eqb _ _ b.none) in
+      ap (λ (x : Cut). follow start 1 x.lines >>= closing (1 + length x.lines) x.rest) (lines_cut s ok)
+      ∙ ap (λ (x : Result Draft Refusal). x >>= closing (1 + length (lines_of s)) []) (whole_text s ok).1
+      ∙ cond-true _ _ _ w
 
   right_reached : is_right (sheet_of reached) ≡ true
   right_reached = right_now reached agrees.agree.drafted
 
-  link_same : (i j : ℕ) → i < j → j < s.items → link_bit s.links i j ≡ link_bit reached.links i j
+  link_same : (i j : ℕ) → i < j → j < s.opening.items → link_bit s.links i j ≡ link_bit reached.links i j
   link_same i j l k = sym (agrees.agree.links i j l k ∙ (let m = right.items_most s ok in let t : given_yet 1024 0 (32 * i + j) 0 ≡ true = grind (arith, nat_tests) in grind (arith, nat_tests)))
 
-  word_same : (i : ℕ) → i < s.items → get_or s.links i 0 ≡ get_or reached.links i 0
+  word_same : (i : ℕ) → i < s.opening.items → get_or s.links i 0 ≡ get_or reached.links i 0
   word_same i l =
-      let n : s.items ≡ reached.items = agrees.agree.items in
-      let l' : i < reached.items = omega arith in
-      right.same_word s.items (get_or s.links i 0) (get_or reached.links i 0) (right.word_in s ok i l)
+      let n = same_items agrees.agree.opening in
+      let l' : i < reached.opening.items = omega arith in
+      right.same_word s.opening.items (get_or s.links i 0) (get_or reached.links i 0) (right.word_in s ok i l)
       (subst (λ (k : ℕ). get_or reached.links i 0 < 2 ^ k) (sym n) (right.word_in (sheet_of reached) right_reached i l'))
       (λ k m. elim (cases_order i k) [
         | inl e ↦
@@ -165,9 +79,7 @@ module _ (s : Sheet) (ok : is_right s ≡ true) where
 
   reads_same : Same s (sheet_of reached)
   reads_same = record {
-    asked = agrees.agree.asked;
-    edition = agrees.agree.edition;
-    items = agrees.agree.items;
+    opening = agrees.agree.opening;
     counts = agrees.agree.counts;
     links = word_same;
     rows = λ i a j l k m. sym (agrees.agree.rows i a j l k m ∙ cond-true (given_yet 1024 0 (32 * i + j) a) (get_or s.rows (place i a j) 0) 0 (let o = right.items_most s ok in grind (arith, nat_tests)));
@@ -180,14 +92,14 @@ reads_back s ok = (reached s ok, read_so s ok, reads_same s ok)
 module _ (s t : Sheet) (ok : is_right s ≡ true) (e : Same s t) where
   given_same : (q : ℕ) → is_given s q ≡ is_given t q
   given_same q =
-      let n = e.items in
-      elim (cases_Bool (ltb (first q) (second q) && ltb (second q) s.items)) [
+      let n = same_items e.opening in
+      elim (cases_Bool (ltb (first q) (second q) && ltb (second q) s.opening.items)) [
         | inl yes' ↦
-            let r = and_parts (ltb (first q) (second q)) (ltb (second q) s.items) yes' in
-            let i_in : first q < s.items = omega (arith, ltb-true (first q) (second q) r.0, ltb-true (second q) s.items r.1) in
+            let r = and_parts (ltb (first q) (second q)) (ltb (second q) s.opening.items) yes' in
+            let i_in : first q < s.opening.items = omega (arith, ltb-true _ _ r.0, ltb-true _ _ r.1) in
             λ v. (ltb (first q) (second q) && ltb (second q) (n v)) && bit (e.links (first q) i_in v) (second q)
         | inr not' ↦
-            let m : (ltb (first q) (second q) && ltb (second q) t.items) ≡ false = ap (λ (x : ℕ). ltb (first q) (second q) && ltb (second q) x) (sym n) ∙ not' in
+            let m : (ltb (first q) (second q) && ltb (second q) t.opening.items) ≡ false = ap (λ (x : ℕ). ltb (first q) (second q) && ltb (second q) x) (sym n) ∙ not' in
             grind (arith, nat_tests)
       ]
 
@@ -195,30 +107,27 @@ module _ (s t : Sheet) (ok : is_right s ≡ true) (e : Same s t) where
   pairs_same q short =
       elim (cases_Bool (is_given s q)) [
         | inl yes' ↦
-            let p = (and_parts (ltb (first q) (second q) && ltb (second q) s.items) (link_bit s.links (first q) (second q)) yes').0 in
-            let r = and_parts (ltb (first q) (second q)) (ltb (second q) s.items) p in
-            let low = ltb-true (first q) (second q) r.0 in
-            let j_in = ltb-true (second q) s.items r.1 in
-            let i_in : first q < s.items = omega (arith, low, j_in) in
-            cond-true (is_given s q) (map (pair_line s q) (range_with_len 0 (get_or s.counts (first q) 0))) [] yes'
-            ∙ map_same (pair_line s q) (pair_line t q) 0 (get_or s.counts (first q) 0)
-            (λ a l k. λ v. decimal (first q) · (decimal (second q) · (decimal a · partners (e.counts (second q) j_in v) (e.rows (first q) a (second q) low j_in (omega (arith, right.count_most s ok (first q) i_in)) v))))
+            let p = given_parts s q yes' in
+            let i_in : first q < s.opening.items = omega (arith, p.low, p.there) in
+            cond-true _ _ _ yes'
+            ∙ map_same _ _ _ _
+            (λ a l k. λ v. decimal (first q) · (decimal (second q) · (decimal a · partners (e.counts (second q) p.there v) (e.rows (first q) a (second q) p.low p.there (omega (arith, right.count_most s ok (first q) i_in)) v))))
             ∙ ap (λ (x : ℕ). map (pair_line t q) (range_with_len 0 x)) (e.counts (first q) i_in)
-            ∙ sym (cond-true (is_given t q) (map (pair_line t q) (range_with_len 0 (get_or t.counts (first q) 0))) [] (sym (given_same q) ∙ yes'))
+            ∙ sym (cond-true _ _ _ (sym (given_same q) ∙ yes'))
         | inr not' ↦
-            cond-false (is_given s q) (map (pair_line s q) (range_with_len 0 (get_or s.counts (first q) 0))) [] not'
-            ∙ sym (cond-false (is_given t q) (map (pair_line t q) (range_with_len 0 (get_or t.counts (first q) 0))) [] (sym (given_same q) ∙ not'))
+            cond-false _ _ _ not'
+            ∙ sym (cond-false _ _ _ (sym (given_same q) ∙ not'))
       ]
 
-  items_same : map (item_line s) (range_with_len 0 s.items) ≡ map (item_line t) (range_with_len 0 t.items)
+  items_same : item_lines s ≡ map (item_line t) (range_with_len 0 t.opening.items)
   items_same =
-      map_same (item_line s) (item_line t) 0 s.items (λ i l k. ap (λ (c : ℕ). decimal i · decimal c) (e.counts i (omega arith)))
-      ∙ ap (λ (n : ℕ). map (item_line t) (range_with_len 0 n)) e.items
+      map_same _ _ _ _ (λ i l k. ap (λ (c : ℕ). decimal i · decimal c) (e.counts i (omega arith)))
+      ∙ ap (λ (o : Opening). map (item_line t) (range_with_len 0 o.items)) e.opening
 
   pub text_same : text_of s ≡ text_of t
   text_same =
       ap (flat_map ended)
-      (λ v. opening_names ∷ (decimal (e.asked v) · (decimal (e.edition v) · decimal (e.items v))) ∷ item_names
+      (λ v. opening_names ∷ opening_line (e.opening v) ∷ item_names
       ∷ (items_same v ++ (pair_names ∷ join_same (pair_lines s) (pair_lines t) 0 1024 (λ q l. pairs_same q (omega arith)) v)))
 
 pub only_one : OnlyOne
@@ -232,37 +141,33 @@ begins : (ls : List (List ℕ)) (c : Draft) → follow start 1 ls ≡ Ok c → (
 begins ls c f =
     let v = go_on ls c f in
     let g : follow start 1 (ls ++ v.more) ≡ Ok v.last =
-    follow_append start 1 ls v.more ∙ ap (λ (r : Result Draft Refusal). then_lines r (λ d. follow d (1 + length ls) v.more)) f ∙ v.goes in
-    let w = lt-ltb (4 + v.last.items) (1 + length (ls ++ v.more)) (omega (arith, v.long, length-append ls v.more)) in
-    let r = sound_lines (ls ++ v.more) v.last g w v.whole in
+    after_lines start 1 ls v.more (Ok c) f ∙ v.goes in
+    let r = sound_lines (ls ++ v.more) v.last g (omega (arith, v.long, length-append ls v.more)) v.whole in
     (sheet_of v.last, v.more, right_now v.last r.drafted, sym r.text)
 
 pub faults : Faults
 faults b e h =
-    let ls = (cut b).0 in
-    elim (then_err (follow start 1 (cut b).0) (closing (1 + length (cut b).0) (cut b).1) e h) [
+    elim (then_err (follow start 1 (cut b).lines) (closing (1 + length (cut b).lines) (cut b).rest) e h) [
       | inl f ↦
-          let w = wrong_line start 1 (cut b).0 e f in
+          let w = wrong_line start 1 (cut b).lines e f in
           let here_line : place_of e ≡ suc w.place = w.line ∙ omega arith in
           record {
             least = omega (arith, here_line);
             most = omega (arith, here_line, w.within_lines);
-            before = subst (λ (k : ℕ). (s : Sheet) × (rest : List (List ℕ)) × (is_right s ≡ true) × (lines_of s ≡ take k (cut b).0 ++ rest)) (omega (arith, here_line)) (begins (take w.place (cut b).0) w.reached w.sound);
+            before = subst (λ (k : ℕ). (s : Sheet) × (rest : List (List ℕ)) × (is_right s ≡ true) × (lines_of s ≡ take k (cut b).lines ++ rest)) (omega (arith, here_line)) (begins (take w.place (cut b).lines) w.reached w.sound);
             here = λ l s rest ok t.
                 let q = whole_text s ok in
-                let t' : lines_of s ≡ take (suc w.place) (cut b).0 ++ rest = t ∙ ap (λ (k : ℕ). take k (cut b).0 ++ rest) here_line in
+                let t' : lines_of s ≡ take (suc w.place) (cut b).lines ++ rest = t ∙ ap (λ (k : ℕ). take k (cut b).lines ++ rest) here_line in
                 let bad : follow start 1 (lines_of s) ≡ Err e =
-                ap (follow start 1) t' ∙ follow_append start 1 (take (suc w.place) (cut b).0) rest
-                ∙ ap (λ (r : Result Draft Refusal). then_lines r (λ d. follow d (1 + length (take (suc w.place) (cut b).0)) rest)) w.fault in
-                let clash : ◌≡◌ {A = Result Draft Refusal} (Ok q.0) (Err e) = sym q.1 ∙ bad in
-                let z : ◌≡◌ {A = ℕ} 0 1 = cc in omega arith;
+                ap (follow start 1) t' ∙ after_lines start 1 (take (suc w.place) (cut b).lines) rest (Err e) w.fault in
+                cc (q.1, bad);
           }
       | inr f ↦
-          let here_line = closing_line (1 + length (cut b).0) (cut b).1 f.0 e f.2 in
+          let here_line = closing_line (1 + length (cut b).lines) (cut b).rest f.0 e f.2 in
           record {
             least = omega (arith, here_line);
             most = omega (arith, here_line);
-            before = subst (λ (xs : List (List ℕ)). (s : Sheet) × (rest : List (List ℕ)) × (is_right s ≡ true) × (lines_of s ≡ xs ++ rest)) (sym (take_all (place_of e - 1) (cut b).0 (omega (arith, here_line)))) (begins (cut b).0 f.0 f.1);
+            before = subst (λ (xs : List (List ℕ)). (s : Sheet) × (rest : List (List ℕ)) × (is_right s ≡ true) × (lines_of s ≡ xs ++ rest)) (sym (take_all (place_of e - 1) (cut b).lines (omega (arith, here_line)))) (begins (cut b).lines f.0 f.1);
             here = λ l. absurd (omega (arith, here_line));
           }
     ]
@@ -281,27 +186,27 @@ pub checked : Checked
 checked asked p =
     check_ways (within asked 9999) (limits_right p.edition p.items) (sizes_right p.items p.counts.now p.links.now p.rows.now) (contents_right p.items p.counts.now p.links.now p.rows.now)
 
-text_some : (r : Result (Unit {0}) Refusal) (b : Bool) (t u : List ℕ) (room : ℕ) → then_text r (cond b (fitting t room) (Err (OutOfLimits 0))) ≡ Ok u → (is_ok r ≡ true) × (b ≡ true) × (leb (length t) 65536 ≡ true) × (t ≡ u)
-text_some (Err e) b t u room h = let z : ◌≡◌ {A = ℕ} 0 1 = cc in absurd (omega arith)
-text_some (Ok x) false t u room h = let z : ◌≡◌ {A = ℕ} 0 1 = cc in absurd (omega arith)
+text_some : (r : Result (Unit {0}) Refusal) (b : Bool) (t u : List ℕ) (room : ℕ) → result_and r (cond b (fitting t room) (Err (OutOfLimits 0))) ≡ Ok u → (is_ok r ≡ true) × (b ≡ true) × (leb (length t) 65536 ≡ true) × (t ≡ u)
+text_some (Err e) b t u room h = absurd cc
+text_some (Ok x) false t u room h = absurd cc
 text_some (Ok x) true t u room h =
     elim (cases_Bool (leb (length t) 65536 && leb (length t) room)) [
       | inl yes' ↦
-          let f : ◌≡◌ {A = Result (List ℕ) Refusal} (Ok t) (Ok u) = sym (cond-true (leb (length t) 65536 && leb (length t) room) (Ok t) (Err MemoryShort) yes') ∙ h in
-          (refl, refl, (and_parts (leb (length t) 65536) (leb (length t) room) yes').0, cc)
+          let f : ◌≡◌ {A = Result (List ℕ) Refusal} (Ok t) (Ok u) = sym (cond-true _ _ _ yes') ∙ h in
+          (refl, refl, (and_parts _ _ yes').0, cc)
       | inr not' ↦
-          let f : ◌≡◌ {A = Result (List ℕ) Refusal} (Err MemoryShort) (Ok u) = sym (cond-false (leb (length t) 65536 && leb (length t) room) (Ok t) (Err MemoryShort) not') ∙ h in
-          let z : ◌≡◌ {A = ℕ} 0 1 = cc in absurd (omega arith)
+          let f : ◌≡◌ {A = Result (List ℕ) Refusal} (Err MemoryShort) (Ok u) = sym (cond-false _ _ _ not') ∙ h in
+          absurd cc
     ]
 
 pub written_back : WrittenBack
 unfolding writing
 written_back asked room p t h counts links rows a b c =
     let w = text_some (grid_check p) (within asked 9999) (text_of (sheet_of_parts asked p)) t room h in
-    let ok : is_right (sheet_of_parts asked p) ≡ true = checked asked p ∙ and_from (within asked 9999) (is_ok (grid_check p)) w.1 w.0 in
+    let ok : is_right (sheet_of_parts asked p) ≡ true = checked asked p ∙ and_from _ _ w.1 w.0 in
     let r = reads_back (sheet_of_parts asked p) ok in
     let roomy : ((leb 32 counts && (leb 32 links && leb 15872 rows)) && leb (length t) 65536) ≡ true =
-    and_from (leb 32 counts && (leb 32 links && leb 15872 rows)) (leb (length t) 65536)
-    (and_from (leb 32 counts) (leb 32 links && leb 15872 rows) (le-leb 32 counts a) (and_from (leb 32 links) (leb 15872 rows) (le-leb 32 links b) (le-leb 15872 rows c)))
+    and_from _ _
+    (and_from _ _ (le-leb _ _ a) (and_from _ _ (le-leb _ _ b) (le-leb _ _ c)))
     (ap (λ (x : List ℕ). leb (length x) 65536) (sym w.3) ∙ w.2) in
-    (r.0, cond-true ((leb 32 counts && (leb 32 links && leb 15872 rows)) && leb (length t) 65536) (reading t) (Err MemoryShort) roomy ∙ ap reading (sym w.3) ∙ r.1, r.2)
+    (r.0, cond-true _ _ _ roomy ∙ ap reading (sym w.3) ∙ r.1, r.2)

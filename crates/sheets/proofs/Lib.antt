@@ -5,11 +5,13 @@ pub mod Forms
 pub mod Places
 pub mod Joins
 pub mod Drafted
+pub mod Next
 pub mod Steps
 pub mod Sound
 pub mod Accepted
 pub mod Right
 pub mod Agree
 pub mod Complete
+pub mod Ended
 pub mod Laws
 pub mod Faulty

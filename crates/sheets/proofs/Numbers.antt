@@ -36,7 +36,7 @@ digits_so v (b ∷ bs) n a k e =
     let back : 48 + (b - 48) ≡ b = omega (arith, h.low) in
     let ih = digits_so (v * 10 + (b - 48)) bs n (omega arith) (omega (arith, h.room, h.high)) h.rest in (
       ih.0,
-      (λ q. let z : ◌≡◌ {A = ℕ} 0 1 = cc in absurd (omega arith)),
+      (λ q. absurd cc),
       ap (λ x. decimal v ++ (x ∷ bs)) (sym back) ∙ sym (append_assoc (decimal v) ((48 + (b - 48)) ∷ []) bs)
           ∙ ap (λ l. l ++ bs) (sym (decimal_more v (b - 48) a h.room (omega (arith, h.high)))) ∙ ih.2,
     )
@@ -52,18 +52,18 @@ first_so b bs n other e =
 
 zero_so : (bs : List ℕ) (n : ℕ) → zero_alone bs ≡ Some n → (n ≡ 0) × (bs ≡ [])
 zero_so [] n e = let same : n ≡ 0 = cc in (same, refl)
-zero_so (b ∷ bs) n e = let z : ◌≡◌ {A = ℕ} 0 1 = cc in absurd (omega arith)
+zero_so (b ∷ bs) n e = absurd cc
 
 decimal_zero : decimal 0 ≡ 48 ∷ []
 decimal_zero = decimal_digit 0 (omega arith)
 
 pub number_only : (s : List ℕ) (n : ℕ) → number_of s ≡ Some n → (n < 10000) × (s ≡ decimal n)
-number_only [] n e = let z : ◌≡◌ {A = ℕ} 0 1 = cc in absurd (omega arith)
+number_only [] n e = absurd cc
 number_only (b ∷ bs) n e =
     ⊎_elim
-    (λ z. let h = zero_so bs n (sym (cond-true (eqb b 48) (zero_alone bs) (digits_after 0 (b ∷ bs)) z) ∙ e) in
-    (omega (arith, h.0), (λ i. eqb-true b 48 z i ∷ h.1 i) ∙ sym decimal_zero ∙ ap decimal (sym h.0)))
-    (λ z. first_so b bs n (eqb-false b 48 z) (sym (cond-false (eqb b 48) (zero_alone bs) (digits_after 0 (b ∷ bs)) z) ∙ e))
+    (λ z. let h = zero_so bs n (sym (cond-true _ _ _ z) ∙ e) in
+    (omega (arith, h.0), (λ i. eqb-true _ _ z i ∷ h.1 i) ∙ sym decimal_zero ∙ ap decimal (sym h.0)))
+    (λ z. first_so b bs n (eqb-false b 48 z) (sym (cond-false _ _ _ z) ∙ e))
     (cases_Bool (eqb b 48))
 
 -- the digits of n after those of v

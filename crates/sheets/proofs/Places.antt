@@ -1,8 +1,8 @@
 -- Where links and row words stand, and what a new one leaves of the others.
-use Rattle.std.proofs.Common.{◌≡◌, ℕ, ◌+◌, ◌*◌, ◌^◌, ◌<◌, Bool, false, ◌&&◌, ◌||◌, eqb, List, length, get_or, sym, ap, ◌∙◌, subst, inl, inr, arith}
+use Rattle.std.proofs.Common.{◌≡◌, ℕ, ◌+◌, ◌*◌, ◌^◌, ◌<◌, Bool, false, ◌&&◌, ◌||◌, eqb, List, length, get_or, sym, ap, ◌∙◌, subst, inl, inr, arith, true}
 use lib.Bits.{bit_or}
 use Rattle.std.proofs.lemmas.List.{get_or-set_same, get_or-set_other, length-set}
-use Rattle.std.proofs.lemmas.Bool.{cases_order, cases_eq}
+use Rattle.std.proofs.lemmas.Bool.{cases_order, cases_eq, and_parts, ltb-true}
 use Rattle.std.proofs.lemmas.Bool.Decides.{nat_tests}
 use Rattle.bits.specs.Bits.{bit}
 use Rattle.bits.proofs.Words.{bit_of_or, bit_pow}
@@ -11,13 +11,27 @@ use Rattle.meaning.specs.Grid.{link_bit, place}
 use Rattle.meaning.specs.Pairs.{pair, start}
 use Rattle.meaning.proofs.Starts.{pair_below}
 use Rattle.sheets.specs.Reading.{with_link}
-use Rattle.sheets.specs.Texts.{first, second}
+use Rattle.sheets.specs.Texts.{first, second, Sheet, is_given}
 
 pub first_of : (i j : ℕ) → j < 32 → first (32 * i + j) ≡ i
 first_of i j h = omega arith
 
 pub second_of : (i j : ℕ) → j < 32 → second (32 * i + j) ≡ j
 second_of i j h = omega arith
+
+pub whole_pair : (q : ℕ) → 32 * first q + second q ≡ q
+whole_pair q = omega arith
+
+pub record Given (s : Sheet) (q : ℕ) : Type 0 where
+  pub low : first q < second q
+  pub there : second q < s.opening.items
+  pub linked : link_bit s.links (first q) (second q) ≡ true
+
+pub given_parts : (s : Sheet) (q : ℕ) → is_given s q ≡ true → Given s q
+given_parts s q e =
+    let p = and_parts _ _ e in
+    let r = and_parts _ _ p.0 in
+    record { low = ltb-true _ _ r.0; there = ltb-true _ _ r.1; linked = p.1 }
 
 below_start : (i j k : ℕ) → i < j → j < k → pair i j < start k
 unfolding start

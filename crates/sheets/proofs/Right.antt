@@ -1,14 +1,15 @@
 -- What a right junction keeps, one fact at a time.
-use Rattle.std.proofs.Common.{◌≡◌, ℕ, zero, suc, ◌*◌, ◌/◌, ◌%◌, ◌^◌, ◌<◌, ◌≤◌, Bool, true, false, not, ◌&&◌, eqb, ltb, leb, ◌⊎◌, get_or, sym, refl, ap, ◌∙◌, inl, inr, ⊎_elim, pow-suc, arith}
+use Rattle.std.proofs.Common.{◌≡◌, ℕ, zero, suc, ◌*◌, ◌/◌, ◌%◌, ◌^◌, ◌<◌, ◌≤◌, Bool, true, false, not, ◌&&◌, ltb, ◌⊎◌, get_or, sym, refl, ap, ◌∙◌, inl, inr, ⊎_elim, pow-suc, arith}
 use Rattle.std.proofs.lemmas.Bool.{and_parts, cases_Bool, cond-true, cond-false, eqb-true, ltb-true, leb-true, not-true}
 use Rattle.std.proofs.lemmas.Bool.Decides.{nat_tests}
 use Rattle.bits.specs.Below.{every, one_if}
 use Rattle.bits.specs.Bits.{bit}
 use Rattle.bits.proofs.Belows.{every_at}
-use Rattle.bits.proofs.Words.{bit_high, bit_up}
-use Rattle.meaning.specs.Grid.{contents_right, link_bit, link_right, links_right, place, row_right, rows_right, same, sizes_right}
-use Rattle.meaning.specs.Limits.{count_right, counts_right, limits_right, within}
-use Rattle.sheets.specs.Texts.{Sheet, is_right}
+use Rattle.bits.proofs.Words.{bit_up}
+use Rattle.meaning.specs.Grid.{contents_right, link_bit, links_right, place, row_right, rows_right, same, sizes_right}
+use Rattle.meaning.specs.Limits.{counts_right, within}
+use Rattle.sheets.specs.declared.draft.Opening.{Opening}
+use Rattle.sheets.specs.Texts.{Sheet, is_right, opening_right}
 use Rattle.sheets.proofs.Partners.{low_bit}
 
 same_is : (x y : Bool) → same x y ≡ true → x ≡ y
@@ -26,77 +27,82 @@ same_word (suc n) x y h l e =
     let high : x / 2 ≡ y / 2 = same_word n (x / 2) (y / 2) (omega arith) (omega arith) (λ k m. sym (bit_up x k) ∙ e (suc k) (omega arith) ∙ bit_up y k) in
     omega arith
 
+pub within_parts : (x most : ℕ) → within x most ≡ true → (1 ≤ x) × (x ≤ most)
+within_parts x most e =
+    let p = and_parts _ _ e in
+    (leb-true _ _ p.0, leb-true _ _ p.1)
+
+pub opening_parts : (o : Opening) → opening_right o ≡ true → (o.asked ≤ 9999) × (o.edition ≤ 9999) × (o.items ≤ 32)
+opening_parts o e =
+    let p = and_parts _ _ e in
+    let q = and_parts _ _ p.1 in
+    ((within_parts o.asked 9999 p.0).1, (within_parts o.edition 9999 q.1).1, (within_parts o.items 32 q.0).1)
+
 module _ (s : Sheet) (ok : is_right s ≡ true) where
   abbrev n : ℕ
-  n = s.items
+  n = s.opening.items
 
-  outer : (within s.asked 9999 && limits_right s.edition n ≡ true) × (sizes_right n s.counts s.links s.rows && contents_right n s.counts s.links s.rows ≡ true)
-  outer = and_parts (within s.asked 9999 && limits_right s.edition n) (sizes_right n s.counts s.links s.rows && contents_right n s.counts s.links s.rows) ok
+  outer : (opening_right s.opening ≡ true) × (sizes_right n s.counts s.links s.rows && contents_right n s.counts s.links s.rows ≡ true)
+  outer = and_parts _ _ ok
 
-  pub asked_in : within s.asked 9999 ≡ true
-  asked_in = (and_parts (within s.asked 9999) (limits_right s.edition n) outer.0).0
+  pub opening_in : opening_right s.opening ≡ true
+  opening_in = outer.0
 
-  pub limits_in : limits_right s.edition n ≡ true
-  limits_in = (and_parts (within s.asked 9999) (limits_right s.edition n) outer.0).1
+  pub asked_most : s.opening.asked ≤ 9999
+  asked_most = (opening_parts s.opening opening_in).0
 
-  pub items_in : within n 32 ≡ true
-  items_in = (and_parts (within n 32) (within s.edition 9999) limits_in).0
-
-  pub edition_in : within s.edition 9999 ≡ true
-  edition_in = (and_parts (within n 32) (within s.edition 9999) limits_in).1
+  pub edition_most : s.opening.edition ≤ 9999
+  edition_most = (opening_parts s.opening opening_in).1
 
   pub items_most : n ≤ 32
-  items_most = leb-true n 32 (and_parts (leb 1 n) (leb n 32) items_in).1
+  items_most = (opening_parts s.opening opening_in).2
 
   contents : contents_right n s.counts s.links s.rows ≡ true
-  contents = (and_parts (sizes_right n s.counts s.links s.rows) (contents_right n s.counts s.links s.rows) outer.1).1
+  contents = (and_parts _ _ outer.1).1
 
   inner : (counts_right n s.counts ≡ true) × (links_right n s.links && rows_right n s.counts s.links s.rows ≡ true)
-  inner = and_parts (counts_right n s.counts) (links_right n s.links && rows_right n s.counts s.links s.rows) contents
+  inner = and_parts _ _ contents
 
   links_hold : links_right n s.links ≡ true
-  links_hold = (and_parts (links_right n s.links) (rows_right n s.counts s.links s.rows) inner.1).0
+  links_hold = (and_parts _ _ inner.1).0
 
   rows_hold : rows_right n s.counts s.links s.rows ≡ true
-  rows_hold = (and_parts (links_right n s.links) (rows_right n s.counts s.links s.rows) inner.1).1
+  rows_hold = (and_parts _ _ inner.1).1
 
   pub count_in : (i : ℕ) → i < n → within (get_or s.counts i 0) 32 ≡ true
-  count_in i l = every_at n (count_right s.counts) inner.0 i l
+  count_in i l = every_at _ _ inner.0 i l
 
   pub count_most : (i : ℕ) → i < n → get_or s.counts i 0 ≤ 32
-  count_most i l = leb-true (get_or s.counts i 0) 32 (and_parts (leb 1 (get_or s.counts i 0)) (leb (get_or s.counts i 0) 32) (count_in i l)).1
+  count_most i l = (within_parts (get_or s.counts i 0) 32 (count_in i l)).1
 
   pub count_least : (i : ℕ) → i < n → 1 ≤ get_or s.counts i 0
-  count_least i l = leb-true 1 (get_or s.counts i 0) (and_parts (leb 1 (get_or s.counts i 0)) (leb (get_or s.counts i 0) 32) (count_in i l)).0
+  count_least i l = (within_parts (get_or s.counts i 0) 32 (count_in i l)).0
 
   link_at : (i : ℕ) → i < n → (ltb (get_or s.links i 0) (2 ^ n) && not (link_bit s.links i i) ≡ true) × (every n (λ j. same (link_bit s.links i j) (link_bit s.links j i)) ≡ true)
-  link_at i l = and_parts (ltb (get_or s.links i 0) (2 ^ n) && not (link_bit s.links i i)) (every n (λ j. same (link_bit s.links i j) (link_bit s.links j i))) (every_at n (link_right n s.links) links_hold i l)
+  link_at i l = and_parts _ _ (every_at _ _ links_hold i l)
 
   pub word_in : (i : ℕ) → i < n → get_or s.links i 0 < 2 ^ n
-  word_in i l = ltb-true (get_or s.links i 0) (2 ^ n) (and_parts (ltb (get_or s.links i 0) (2 ^ n)) (not (link_bit s.links i i)) (link_at i l).0).0
+  word_in i l = ltb-true _ _ (and_parts _ _ (link_at i l).0).0
 
   pub own_not : (i : ℕ) → i < n → link_bit s.links i i ≡ false
-  own_not i l = not-true (link_bit s.links i i) (and_parts (ltb (get_or s.links i 0) (2 ^ n)) (not (link_bit s.links i i)) (link_at i l).0).1
+  own_not i l = not-true (link_bit s.links i i) (and_parts _ _ (link_at i l).0).1
 
   pub mutual_links : (i j : ℕ) → i < n → j < n → link_bit s.links i j ≡ link_bit s.links j i
-  mutual_links i j l k = same_is (link_bit s.links i j) (link_bit s.links j i) (every_at n (λ j. same (link_bit s.links i j) (link_bit s.links j i)) (link_at i l).1 j k)
-
-  pub link_past : (i j : ℕ) → i < n → n ≤ j → link_bit s.links i j ≡ false
-  link_past i j l k = bit_high (get_or s.links i 0) n j (word_in i l) k
+  mutual_links i j l k = same_is (link_bit s.links i j) (link_bit s.links j i) (every_at _ _ (link_at i l).1 j k)
 
   row_at : (j i a : ℕ) → j < n → i < j → a < 32 → row_right s.counts s.links s.rows j i a ≡ true
   row_at j i a l k m =
-      every_at 32 (row_right s.counts s.links s.rows j i)
-      (every_at j (λ i. every 32 (row_right s.counts s.links s.rows j i)) (every_at n (λ j. every j (λ i. every 32 (row_right s.counts s.links s.rows j i))) rows_hold j l) i k) a m
+      every_at _ _
+      (every_at _ _ (every_at _ _ rows_hold j l) i k) a m
 
   pub row_small : (i a j : ℕ) → i < j → j < n → a < 32 → link_bit s.links i j ≡ true → a < get_or s.counts i 0 → get_or s.rows (place i a j) 0 < 2 ^ get_or s.counts j 0
   row_small i a j k l m t o =
       let yes' : (link_bit s.links i j && ltb a (get_or s.counts i 0)) ≡ true = grind (arith, nat_tests) in
-      ltb-true (get_or s.rows (place i a j) 0) (2 ^ get_or s.counts j 0)
-      (sym (cond-true (link_bit s.links i j && ltb a (get_or s.counts i 0)) (ltb (get_or s.rows (place i a j) 0) (2 ^ get_or s.counts j 0)) (eqb (get_or s.rows (place i a j) 0) 0) yes') ∙ row_at j i a l k m)
+      ltb-true _ _
+      (sym (cond-true _ _ _ yes') ∙ row_at j i a l k m)
 
   pub row_none : (i a j : ℕ) → i < j → j < n → a < 32 → (link_bit s.links i j ≡ false) ⊎ (get_or s.counts i 0 ≤ a) → get_or s.rows (place i a j) 0 ≡ 0
   row_none i a j k l m o =
       let not' : (link_bit s.links i j && ltb a (get_or s.counts i 0)) ≡ false = ⊎_elim (λ f. grind (arith, nat_tests)) (λ f. elim (cases_Bool (link_bit s.links i j)) [ inl t ↦ grind (arith, nat_tests) | inr t ↦ grind (arith, nat_tests) ]) o in
-      eqb-true (get_or s.rows (place i a j) 0) 0
-      (sym (cond-false (link_bit s.links i j && ltb a (get_or s.counts i 0)) (ltb (get_or s.rows (place i a j) 0) (2 ^ get_or s.counts j 0)) (eqb (get_or s.rows (place i a j) 0) 0) not') ∙ row_at j i a l k m)
+      eqb-true _ _
+      (sym (cond-false _ _ _ not') ∙ row_at j i a l k m)

@@ -23,9 +23,9 @@ pub record BlankElse (d : Draft) : Type 0 where
   pub counts_long : length d.counts ≡ 32
   pub links_long : length d.links ≡ 32
   pub rows_long : length d.rows ≡ 15872
-  pub counts : (i : ℕ) → d.items ≤ i → slice_index d.counts i ≡ 0
-  pub links : (i : ℕ) → d.items ≤ i → slice_index d.links i ≡ 0
-  pub rows : (k : ℕ) → rows_for d.items ≤ k → slice_index d.rows k ≡ 0
+  pub counts : (i : ℕ) → d.opening.items ≤ i → slice_index d.counts i ≡ 0
+  pub links : (i : ℕ) → d.opening.items ≤ i → slice_index d.links i ≡ 0
+  pub rows : (k : ℕ) → rows_for d.opening.items ≤ k → slice_index d.rows k ≡ 0
 
 pub record Accepted (b : List ℕ) (d : Draft) : Type 0 where
   pub text : b ≡ text_of (sheet_of d)
@@ -50,9 +50,9 @@ OnlyOne = (b c : List ℕ) (d e : Draft) → reading b ≡ Ok d → reading c �
 
 pub record FirstFaulty (b : List ℕ) (e : Refusal) : Type 0 where
   pub least : 1 ≤ place_of e
-  pub most : place_of e ≤ 1 + length (cut b).0
-  pub before : (s : Sheet) × (rest : List (List ℕ)) × (is_right s ≡ true) × (lines_of s ≡ take (place_of e - 1) (cut b).0 ++ rest)
-  pub here : place_of e ≤ length (cut b).0 → (s : Sheet) (rest : List (List ℕ)) → is_right s ≡ true → lines_of s ≢ take (place_of e) (cut b).0 ++ rest
+  pub most : place_of e ≤ 1 + length (cut b).lines
+  pub before : (s : Sheet) × (rest : List (List ℕ)) × (is_right s ≡ true) × (lines_of s ≡ take (place_of e - 1) (cut b).lines ++ rest)
+  pub here : place_of e ≤ length (cut b).lines → (s : Sheet) (rest : List (List ℕ)) → is_right s ≡ true → lines_of s ≢ take (place_of e) (cut b).lines ++ rest
 
 abbrev pub Faults : Type 0
 Faults = (b : List ℕ) (e : Refusal) → reading b ≡ Err e → FirstFaulty b e

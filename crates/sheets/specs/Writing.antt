@@ -1,7 +1,8 @@
 -- What the writer answers and writes: the text of a junction, or the refusal due.
 -- writing asked p room: the text, for a buffer of room bytes; or the grid check's refusal, then 10, then 12
 -- length_of w: what the writer answers; written_to w out: what a buffer that held out holds after it
-use Rattle.std.specs.Prelude.{ℕ, cond, ◌&&◌, List, ◌++◌, length, drop, Ok, Err, Result, nat_le}
+use Rattle.std.specs.Prelude.{ℕ, if◌then◌else◌, ◌&&◌, List, ◌++◌, length, drop, Ok, Err, Result, nat_le}
+use Rattle.std.specs.Result.{result_and}
 use Rattle.meaning.specs.Grid.{grid_check}
 use Rattle.meaning.specs.Limits.{within}
 use Rattle.meaning.specs.declared.parts.GridParts.{GridParts}
@@ -9,15 +10,14 @@ use Rattle.meaning.specs.declared.refusal.Refusal.{Refusal}
 use Rattle.meaning.specs.declared.refusal.Refusal.TheVariants.{OutOfLimits, MemoryShort}
 use Rattle.sheets.specs.Texts.{sheet_of_parts, text_of}
 
-abbrev pub then_text : Result (Unit {0}) Refusal → Result (List ℕ) Refusal → Result (List ℕ) Refusal
-then_text (Err e) r = Err e
-then_text (Ok x) r = r
-
 abbrev pub fitting : List ℕ → ℕ → Result (List ℕ) Refusal
-fitting t room = cond (nat_le (length t) 65536 && nat_le (length t) room) (Ok t) (Err MemoryShort)
+fitting t room = if nat_le (length t) 65536 && nat_le (length t) room then Ok t else Err MemoryShort
 
 unfoldable pub writing : ℕ → GridParts → ℕ → Result (List ℕ) Refusal
-writing asked p room = then_text (grid_check p) (cond (within asked 9999) (fitting (text_of (sheet_of_parts asked p)) room) (Err (OutOfLimits 0)))
+writing asked p room =
+    result_and (grid_check p)
+    (if within asked 9999 then fitting (text_of (sheet_of_parts asked p)) room
+    else Err (OutOfLimits 0))
 
 abbrev pub length_of : Result (List ℕ) Refusal → Result ℕ Refusal
 length_of (Ok t) = Ok (length t)
