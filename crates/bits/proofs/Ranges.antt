@@ -1,10 +1,10 @@
 -- `all` and `any` over the numbers below a bound, in the words of `Below`.
 -- Each lemma takes the test, the bound, the call's clause `ran`, and what one call of the closure answers.
 use Rattle.std.proofs.Common.{arith, List}
-use mathlib.Core.Path.{◌≡◌, refl, sym, subst, ap, ◌∙◌}
+use mathlib.Core.Path.{◌≡◌, refl, sym, subst, ◌∙◌}
 use mathlib.Core.Bool.{Bool, true, false}
 use mathlib.Core.Logic.{inl, inr}
-use Prim.Native.Nat.{ℕ, zero, suc, ◌+◌, ◌-◌, ◌<◌, ◌≤◌}
+use Prim.Native.Nat.{ℕ, zero, suc, ◌+◌, ◌<◌, ◌≤◌}
 use native.Mathlib.Decide.{ℕ_discrete}
 use denote.Param.Members.{Mut}
 use lib.Dec.{T}

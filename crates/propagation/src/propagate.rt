@@ -72,19 +72,19 @@ pub fn propagate<B: RuleBook, O: WaitingList<Choice>, I: WaitingList<u8>>(
     options: &mut O,
     items: &mut I,
 )
-    requires long { 1024 * (B.RuleBook.meaning book.now).items ≤ length counts.old }
-    requires there { There (B.RuleBook.meaning book.now) (words domains.old) }
-    requires empty { (O.WaitingList.waits options.old ≡ none) × (I.WaitingList.waits items.old ≡ none) }
-    requires options { size (B.RuleBook.meaning book.now) (words domains.old) ≤ O.WaitingList.room options.old }
-    requires items { (B.RuleBook.meaning book.now).items ≤ I.WaitingList.room items.old }
-    ensures largest { LargestClosed (count_on c) (B.RuleBook.meaning book.now) (words domains.old) (words domains.new) }
-    ensures there { There (B.RuleBook.meaning book.now) (words domains.new) }
-    ensures counted { Counted (B.RuleBook.meaning book.now) (words domains.new) counts.new }
-    ensures past { Past (B.RuleBook.meaning book.now) counts.old counts.new }
+    requires long { 1024 * (B.meaning book.now).items ≤ length counts.old }
+    requires there { There (B.meaning book.now) (words domains.old) }
+    requires empty { (O.waits options.old ≡ none) × (I.waits items.old ≡ none) }
+    requires options { size (B.meaning book.now) (words domains.old) ≤ O.room options.old }
+    requires items { (B.meaning book.now).items ≤ I.room items.old }
+    ensures largest { LargestClosed (count_on c) (B.meaning book.now) (words domains.old) (words domains.new) }
+    ensures there { There (B.meaning book.now) (words domains.new) }
+    ensures counted { Counted (B.meaning book.now) (words domains.new) counts.new }
+    ensures past { Past (B.meaning book.now) counts.old counts.new }
     ensures length { length counts.new ≡ length counts.old }
-    ensures empty { (O.WaitingList.waits options.new ≡ none) × (I.WaitingList.waits items.new ≡ none) }
-    ensures options { O.WaitingList.room options.new ≡ O.WaitingList.room options.old }
-    ensures items { I.WaitingList.room items.new ≡ I.WaitingList.room items.old }
+    ensures empty { (O.waits options.new ≡ none) × (I.waits items.new ≡ none) }
+    ensures options { O.room options.new ≡ O.room options.old }
+    ensures items { I.room items.new ≡ I.room items.old }
 {
     let mut state = Domains {
         kept: *domains,

@@ -30,7 +30,11 @@ pub struct Outcome {
 
 impl fmt::Display for Outcome {
     fn fmt<W: fmt::Write>(&self, f: &mut fmt::Formatter<W>) -> fmt::Result {
-        write!(f, "keeps {} options, crosses out {}", self.kept, self.crossed)
+        write!(
+            f,
+            "keeps {} options, crosses out {}",
+            self.kept, self.crossed
+        )
     }
 }
 

@@ -21,7 +21,6 @@ use Rattle.levels.proofs.Theories.{largest_from}
 use Rattle.runs.specs.declared.call.Call.{Call}
 use Rattle.runs.specs.declared.call.Call.TheVariants.{Screen}
 use Rattle.runs.specs.Answers.{Answer, screened}
-use Rattle.runs.specs.declared.call.Outcome.{Outcome}
 use Rattle.runs.specs.State.{State, is_option, unstruck}
 use Rattle.levels.specs.Size.{size}
 use Rattle.runs.specs.Outcome.{Keeps, FindsNone}
