@@ -1,7 +1,7 @@
 -- Tables of bytes and words: what a place holds after a loop over an option or over an item.
 -- Lowered: the counts on j of the first n options of item i are lowered where the test f says so, and nothing else has changed
 -- LoweredAll: the same of the first n items, where they are linked with j
-use Rattle.std.proofs.Common.{◌≡◌, ℕ, ◌+◌, ◌-◌, ◌/◌, ◌%◌, ◌<◌, ◌≤◌, Bool, ◌&&◌, T, ◌≢◌, List, length, get_or, set, sym, ap, ◌∙◌, subst, arith, get_or-set_other, get_or-set_same}
+use Rattle.std.proofs.Common.{◌≡◌, ℕ, ◌+◌, ◌-◌, ◌/◌, ◌%◌, ◌<◌, Bool, ◌&&◌, T, ◌≢◌, List, length, get_or, set, sym, ap, ◌∙◌, subst, arith, get_or-set_other, get_or-set_same}
 use native.Mathlib.Decide.{ℕ_discrete}
 use Rattle.bits.specs.Below.{one_if}
 use Rattle.bits.proofs.Counts.{one_if_yes, one_if_no}
@@ -79,3 +79,14 @@ module _ (m : Meaning) (old now : List ℕ) (j : ℕ) (f : ℕ → ℕ → Bool)
         let e : byte new i a j ≡ byte now i a j = ap (λ (l : List ℕ). get_or l (place i a j) 0) is in
         omega (arith, o, e))
         (λ k h. ap (λ (l : List ℕ). get_or l k 0) is)
+
+-- a place is that of its item, its option and its second item
+pub at_place : (P : ℕ → ℕ → ℕ → Type 0) (i a j : ℕ) → a < 32 → j < 32 → P (place i a j / 1024) (place i a j / 32 % 32) (place i a j % 32) → P i a j
+at_place P i a j al jl h =
+    let e1 : place i a j / 1024 ≡ i = omega arith in
+    let e2 : place i a j / 32 % 32 ≡ a = omega arith in
+    let e3 : place i a j % 32 ≡ j = omega arith in
+    subst (λ (x : ℕ). P i a x) e3 (subst (λ (x : ℕ). P i x (place i a j % 32)) e2 (subst (λ (x : ℕ). P x (place i a j / 32 % 32) (place i a j % 32)) e1 h))
+
+pub apart_on : (x a k y b j : ℕ) → a < 32 → b < 32 → k < 32 → j < 32 → k ≢ j → place x a k ≢ place y b j
+apart_on x a k y b j al bl kl jl ne e = ne (omega arith)
