@@ -1,16 +1,8 @@
 // Grid books: what the check refuses and in which order, the smallest and the largest, and the blank book.
-use crate::checked;
+use crate::{checked, is_blank, unlike};
 use books::grid::GridBook;
 use books::rule::RuleBook;
 use meaning::parts::GridParts;
-
-// The rows of one pair, with two options each, of which only the unlike stand together.
-fn unlike() -> [u32; 32] {
-    let mut rows = [0; 32];
-    rows[0] = 0b10;
-    rows[1] = 0b01;
-    rows
-}
 
 fn parts<'a>(counts: &'a [u8], links: &'a [u32], rows: &'a [u32]) -> GridParts<'a> {
     GridParts {
@@ -24,7 +16,7 @@ fn parts<'a>(counts: &'a [u8], links: &'a [u32], rows: &'a [u32]) -> GridParts<'
 
 #[test]
 fn answers(rt: HostRuntime) {
-    let rows = &unlike();
+    let rows = &unlike::<32>();
     let parts = parts(&[2, 2], &[0b10, 0b01], rows);
     assert_eq!(rt; checked(parts), Ok(()));
     let book = GridBook::new(parts);
@@ -60,7 +52,7 @@ fn limits_come_first(rt: HostRuntime) {
 
 #[test]
 fn sizes_come_before_contents(rt: HostRuntime) {
-    let rows = &unlike();
+    let rows = &unlike::<32>();
     assert_eq!(rt; checked(parts(&[0, 2], &[0b10, 0b01], rows)), Err(10));
     assert_eq!(rt; checked(parts(&[0, 2], &[0b10, 0b01], &[0; 31])), Err(12));
     assert_eq!(rt; checked(parts(&[0, 2], &[0b10], rows)), Err(12));
@@ -69,7 +61,7 @@ fn sizes_come_before_contents(rt: HostRuntime) {
 
 #[test]
 fn faulty_contents(rt: HostRuntime) {
-    let rows = &unlike();
+    let rows = &unlike::<32>();
     assert_eq!(rt; checked(parts(&[2, 33], &[0b10, 0b01], rows)), Err(10));
     assert_eq!(rt;
         checked(parts(&[2, 2], &[0b110, 0b01], rows)),
@@ -122,10 +114,5 @@ fn one_item_and_thirty_two(rt: HostRuntime) {
 
 #[test]
 fn refused_parts_make_the_blank_book(rt: HostRuntime) {
-    let book = GridBook::new(parts(&[], &[], &[]));
-    assert!(rt; book.edition() == 0 && book.items() == 1);
-    assert!(rt; book.options(0) == 1 && book.options(1) == 0 && !book.linked(0, 0));
-    assert!(rt;
-        book.together(0, 0, 0, 0) && !book.together(0, 1, 0, 0) && !book.together(0, 0, 1, 0)
-    );
+    assert!(rt; is_blank(&GridBook::new(parts(&[], &[], &[]))));
 }

@@ -1,5 +1,5 @@
 // Joint books: of a manual and a site, of joint books again, and of books that do not fit.
-use crate::numbered;
+use crate::{numbered, unlike};
 use books::clearance::ClearanceBook;
 use books::grid::GridBook;
 use books::joint::JointBook;
@@ -7,13 +7,6 @@ use books::rule::RuleBook;
 use meaning::parts::{ClearanceParts, GridParts};
 
 // The manual links items 0 and 1, of which only the unlike options stand together.
-fn manual_rows() -> [u32; 96] {
-    let mut rows = [0; 96];
-    rows[0] = 0b10;
-    rows[1] = 0b01;
-    rows
-}
-
 fn manual<'a>(rows: &'a [u32]) -> GridBook<'a> {
     let links = &[0b010, 0b001, 0b000];
     GridBook::new(GridParts {
@@ -58,7 +51,7 @@ fn free<'a>(edition: u32, items: usize, counts: &'a [u8]) -> GridBook<'a> {
 
 #[test]
 fn manual_and_site(rt: HostRuntime) {
-    let (rows, starts) = (&manual_rows(), &site_starts());
+    let (rows, starts) = (&unlike::<96>(), &site_starts());
     assert_eq!(rt;
         numbered(JointBook::check(&manual(rows), &site(starts))),
         Ok(())
@@ -77,7 +70,7 @@ fn manual_and_site(rt: HostRuntime) {
 
 #[test]
 fn joint_of_joints(rt: HostRuntime) {
-    let (rows, starts) = (&manual_rows(), &site_starts());
+    let (rows, starts) = (&unlike::<96>(), &site_starts());
     let inner = JointBook::new(manual(rows), site(starts));
     let book = JointBook::new(inner, JointBook::new(site(starts), inner));
     assert!(rt; book.edition() == 7 && book.items() == 3 && book.options(0) == 2);
@@ -89,7 +82,7 @@ fn joint_of_joints(rt: HostRuntime) {
 
 #[test]
 fn books_that_do_not_fit(rt: HostRuntime) {
-    let rows = &manual_rows();
+    let rows = &unlike::<96>();
     assert_eq!(rt;
         numbered(JointBook::check(&manual(rows), &free(7, 3, &[2, 2, 2]))),
         Ok(())

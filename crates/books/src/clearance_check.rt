@@ -1,4 +1,5 @@
-// The contents of a clearance book's parts, one condition a method.
+// The contents of a clearance book's parts, one condition a method. What a method still asks is where its numbers lie, which
+// no struct could hold.
 ghost use Rattle.std.specs.Prelude.{◌≡◌, ◌<◌, ◌≤◌, true, slice_index};
 ghost use Rattle.bits.specs.Below.{every};
 ghost use Rattle.meaning.specs.Clearance.{clearance_meaning, clearance_sizes, gap_of, gaps_right, green, green_right, greens_right};

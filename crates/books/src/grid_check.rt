@@ -1,4 +1,5 @@
-// The contents of a grid book's parts, one condition a method.
+// The contents of a grid book's parts, one condition a method. What a method still asks is where its numbers lie, which no
+// struct could hold.
 ghost use Rattle.std.specs.Prelude.{◌≡◌, ◌<◌, true, slice_index};
 ghost use Rattle.bits.specs.Below.{every};
 ghost use Rattle.meaning.specs.Grid.{grid_meaning, grid_sizes, link_bit, link_right, links_right, place, row_right, rows_right, same};

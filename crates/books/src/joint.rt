@@ -8,7 +8,8 @@ use crate::rule::RuleBook;
 use meaning::refusal::Refusal;
 use std::alloc::AllocError;
 
-// Whether the two books agree is found out once, when the joint book is made.
+// Whether the two books agree is found out once, when the joint book is made. It stays a flag beside them, since both books
+// stay in either case: a book of any kind may not be let go.
 pub struct JointBook<P: RuleBook, Q: RuleBook> {
     first: P,
     second: Q,
@@ -16,6 +17,7 @@ pub struct JointBook<P: RuleBook, Q: RuleBook> {
     ghost told: { fits ≡ agree (P.meaning first) (Q.meaning second) },
 }
 
+// Written by hand: a generic struct with a ghost field derives neither.
 impl<P: RuleBook + Copy, Q: RuleBook + Copy> Copy for JointBook<P, Q> {}
 
 impl<P: RuleBook + Clone, Q: RuleBook + Clone> Clone for JointBook<P, Q> {

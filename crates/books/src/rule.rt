@@ -2,6 +2,8 @@
 ghost use Rattle.std.specs.Prelude.{◌≡◌, ℕ, ◌≤◌};
 ghost use Rattle.meaning.specs.Meaning.{Lawful, Meaning};
 
+// An item and its option stay two numbers throughout, as in the definitions: a pair of them would put projections into every
+// clause and hold no fact of its own.
 pub trait RuleBook {
     // The five things that the book means.
     ghost meaning: { Self → Meaning };

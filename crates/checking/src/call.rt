@@ -18,7 +18,8 @@ fn admitted<B: RuleBook>(book: &B, level: u32, set: &[u32]) -> Result<Level, Ref
     Ok(level)
 }
 
-// Whether the first n words, for a book of n items, are a consistent set of the level.
+// Whether the first n words, for a book of n items, are a consistent set of the level. The level is a number here and below,
+// since any number is answered, an unknown one by its refusal.
 pub fn is_consistent<B: RuleBook>(book: &B, level: u32, set: &[u32]) -> Result<bool, Refusal>
     ensures { Judges (B.meaning book.now) set.now (due (B.meaning book.now) level set.now) result }
 {

@@ -7,7 +7,8 @@ ghost use Rattle.lists.specs.Calls.{put_answer, put_waits, put_order, Taken, Tak
 use crate::waiting::WaitingList;
 use meaning::refusal::Refusal;
 
-// A stack: the oldest element is in the first cell, the newest in the one before `count`.
+// A stack: the oldest element is in the first cell, the newest in the one before `count`. The cells are the caller's, with no
+// heap, so the count stands beside them.
 #[derive(Drop)]
 pub struct Newest<'a, T> {
     cells: &'a mut [T],

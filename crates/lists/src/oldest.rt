@@ -8,7 +8,8 @@ ghost use Rattle.lists.specs.Calls.{put_answer, put_waits, put_order, Taken, Tak
 use crate::waiting::WaitingList;
 use meaning::refusal::Refusal;
 
-// A ring: the oldest element is at `head`, the newer ones come after it and round the end.
+// A ring: the oldest element is at `head`, the newer ones come after it and round the end. Head and count stand beside the
+// cells, which are the caller's, with no heap.
 #[derive(Drop)]
 pub struct Oldest<'a, T> {
     cells: &'a mut [T],

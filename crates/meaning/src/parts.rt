@@ -1,4 +1,5 @@
-// The parts of a grid book, as someone hands them over; any values, checked or not.
+// The parts of a grid book, as someone hands them over; any values, checked or not. The slices stand side by side and the
+// number of items beside them, since that is the layout in which callers hold them, with no heap.
 #[derive(Clone, Copy)]
 pub struct GridParts<'a> {
     pub edition: u32,

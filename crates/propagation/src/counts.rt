@@ -14,6 +14,7 @@ use levels::words::contains;
 fn shared(x: u32, y: u32) -> u8
     ensures { result ≡ count 32 (λ b. bit y b && bit x b) }
 {
+    // At most 32, which the type of a count of ones does not say.
     (x & y).count_ones() as u8
 }
 

@@ -1,4 +1,5 @@
-// The domains of the items while options are crossed out, as bits of words.
+// The domains of the items while options are crossed out, as bits of words. The support counts and the lists stay parameters
+// beside them: of those that a step takes it changes only some, and with all in one struct it would have to say which stay.
 #[derive(Drop)]
 pub struct Domains {
     // The options that are not crossed out.

@@ -22,6 +22,7 @@ pub fn mark<I: WaitingList<u8>>(n: usize, marked: &mut u32, items: &mut I, i: us
 {
     if !has_bit(*marked, i) {
         *marked = put_bit(*marked, i, true);
+        // Below 32, as the clauses say and no type does; there is room, so nothing is refused.
         let _ = items.put(i as u8);
     }
 }

@@ -35,6 +35,7 @@ impl<B: RuleBook> Screening<'_, B> {
         for a in 0..self.book.options(i) {
             if contains(&domains.kept, i, a) && !self.meets(&domains.seen, counts, i, a) {
                 take_out(&mut domains.kept, i, a);
+                // Both are below 32, as the book's laws say and no type does; there is room, so nothing is refused.
                 let _ = options.put(Choice {
                     item: i as u8,
                     option: a as u8,

@@ -1,4 +1,5 @@
-// Whether an option meets the count c in a set. Every test reads the table, so the book is asked only for links.
+// Whether an option meets the count c in a set. Every test reads the table, so the book is asked only for links. What
+// a method asks is where its numbers lie, and that the counts handed to it are those of the set: no struct could hold either.
 ghost use Rattle.std.specs.Prelude.{◌≡◌, ℕ, ◌*◌, ◌<◌, ◌≤◌, ◌&&◌, length};
 ghost use Rattle.bits.specs.Below.{every, some};
 ghost use Rattle.bits.specs.Bits.{bit};

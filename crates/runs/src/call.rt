@@ -7,6 +7,7 @@ pub enum Call {
     Strike { item: usize, option: usize },
     Choose { item: usize, option: usize },
     Restore { item: usize, option: usize },
+    // Any number: an unknown level is refused in its turn.
     Screen { level: u32 },
 }
 

@@ -5,8 +5,8 @@ ghost use Rattle.sessions.specs.Hint.{HintSays};
 ghost use Rattle.sessions.specs.View.{shown, view};
 
 use crate::marks::Marks;
+use crate::options::Options;
 use crate::session::Session;
-use crate::sizes::count_options;
 use books::rule::RuleBook;
 use meaning::refusal::Refusal;
 
@@ -14,9 +14,13 @@ use meaning::refusal::Refusal;
 fn fewest_kept<B: RuleBook>(book: &B, marks: &Marks) -> Option<usize>
     ensures { Hints (B.meaning book.now) (shown (Some marks.now)) result }
 {
+    let kept = Options {
+        book,
+        set: &marks.kept,
+    };
     let mut best = None;
     for i in 0..book.items() {
-        let number = count_options(book, &marks.kept, i);
+        let number = kept.count(i);
         if number >= 2 && best.is_none_or(|(_, fewest)| number < fewest) {
             best = Some((i, number));
         }

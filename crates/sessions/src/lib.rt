@@ -4,9 +4,9 @@
 pub mod edits;
 pub mod hint;
 pub mod marks;
+pub mod options;
 pub mod perform;
 pub mod screen;
 pub mod session;
 pub mod settled;
-pub mod sizes;
 pub mod start;

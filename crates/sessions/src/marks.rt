@@ -13,6 +13,7 @@ pub struct Marks {
     pub kept: [u32; 32],
 }
 
+// The bound of i, here and below, is one of a number, which no set could carry.
 // These options of item i join the set.
 fn put(set: &mut [u32; 32], i: usize, options: u32)
     requires { i < 32 }

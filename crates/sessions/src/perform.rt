@@ -31,6 +31,7 @@ impl<B: RuleBook> Session<B> {
         ensures did { Did (B.meaning self.old.book) call (room counts.old (O.waits options.old) (O.room options.old) (I.waits items.old) (I.room items.old)) (view self.old) result (room counts.new (O.waits options.new) (O.room options.new) (I.waits items.new) (I.room items.new)) (view self.new) }
         ensures same { self.new.book ≡ self.old.book }
     {
+        // Calls are values, since the law speaks of lists of them.
         match call {
             Call::Strike { item, option } => self.strike(item, option)?,
             Call::Choose { item, option } => self.choose(item, option)?,

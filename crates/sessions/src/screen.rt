@@ -10,9 +10,9 @@ ghost use Rattle.runs.specs.State.{is_option};
 ghost use Rattle.sessions.specs.Said.{Early, Settles, answered, room};
 ghost use Rattle.sessions.specs.View.{view};
 
+use crate::options::Options;
 use crate::session::Session;
 use crate::settled::Settled;
-use crate::sizes::{lowest_empty, set_size};
 use crate::start::unstruck_words;
 use books::rule::RuleBook;
 use levels::level::Level;
@@ -26,7 +26,8 @@ use runs::call::Outcome;
 fn book_size<B: RuleBook>(book: &B) -> usize
     ensures { result ≡ size (B.meaning book.now) (is_option (B.meaning book.now)) }
 {
-    set_size(book, &unstruck_words(book, &[0; 32]))
+    let all = unstruck_words(book, &[0; 32]);
+    Options { book, set: &all }.size()
 }
 
 // Whether the buffer and the lists are large enough for the book, and nothing waits.
@@ -78,12 +79,16 @@ fn settle<B: RuleBook, O: WaitingList<Choice>, I: WaitingList<u8>>(
         options,
         items,
     );
-    if let Some(item) = lowest_empty(book, &kept_words) {
+    let kept = Options {
+        book,
+        set: &kept_words,
+    };
+    if let Some(item) = kept.lowest_empty() {
         clear(counts, book.items());
         return Err(Refusal::NothingConsistent { item });
     }
-    let number = set_size(book, &kept_words);
-    let crossed = set_size(book, &start) - number;
+    let number = kept.size();
+    let crossed = Options { book, set: &start }.size() - number;
     Ok(Settled {
         words: kept_words,
         outcome: Outcome {
@@ -95,7 +100,8 @@ fn settle<B: RuleBook, O: WaitingList<Choice>, I: WaitingList<u8>>(
 
 impl<B: RuleBook> Session<B> {
     // Keeps the largest consistent set of the level among the options not struck, and answers how many it kept and how
-    // many it crossed out. A refusal leaves the session as it was.
+    // many it crossed out. A refusal leaves the session as it was. Any number may be handed as the level. Buffer and lists
+    // stay three parameters: in a struct, every clause would name them through it and none would go.
     pub fn screen<O: WaitingList<Choice>, I: WaitingList<u8>>(
         &mut self,
         level: u32,

@@ -2,11 +2,12 @@
 ghost use Rattle.std.specs.Prelude.{◌≡◌, ℕ, ◌&&◌, ◌==◌};
 ghost use Rattle.bits.specs.Bits.{bit};
 ghost use Rattle.meaning.specs.Limits.{within};
-ghost use Rattle.runs.specs.State.{opened};
+ghost use Rattle.levels.specs.Sets.{words};
+ghost use Rattle.runs.specs.State.{is_option, opened};
 ghost use Rattle.sessions.specs.View.{is_shown, view};
 
 use crate::marks::Marks;
-use crate::start::item_options;
+use crate::options::Options;
 use books::rule::RuleBook;
 
 #[derive(Drop)]
@@ -37,12 +38,23 @@ impl<B: RuleBook> Session<B> {
         Session { book, marks }
     }
 
+    // The word of the options of item i that are in the set.
+    fn shown(&self, set: &[u32; 32], i: usize) -> u32
+        ensures { (a : ℕ) → bit result a ≡ (is_option (B.meaning self.now.book) i a && words set.now i a) }
+    {
+        let options = Options {
+            book: &self.book,
+            set,
+        };
+        options.of_item(i)
+    }
+
     // The word of the options of item i that are kept; none of a missing item or a barred session.
     pub fn kept(&self, i: usize) -> u32
         ensures { (a : ℕ) → bit result a ≡ is_shown (B.meaning self.now.book) (view self.now).barred (view self.now).kept i a }
     {
         match &self.marks {
-            Some(marks) => item_options(&self.book, &marks.kept, i),
+            Some(marks) => self.shown(&marks.kept, i),
             None => 0,
         }
     }
@@ -52,7 +64,7 @@ impl<B: RuleBook> Session<B> {
         ensures { (a : ℕ) → bit result a ≡ is_shown (B.meaning self.now.book) (view self.now).barred (view self.now).struck i a }
     {
         match &self.marks {
-            Some(marks) => item_options(&self.book, &marks.struck, i),
+            Some(marks) => self.shown(&marks.struck, i),
             None => 0,
         }
     }

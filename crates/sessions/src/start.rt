@@ -12,6 +12,7 @@ fn low_bits(n: usize) -> u32
     requires { n ≤ 32 }
     ensures { (a : ℕ) → bit result a ≡ nat_lt a n }
 {
+    // With n up to 32 it fits, which the type u64 does not say.
     ((1u64 << n) - 1) as u32
 }
 
@@ -34,16 +35,6 @@ pub(crate) fn other_options<B: RuleBook>(book: &B, i: usize, a: usize) -> u32
     ensures { (b : ℕ) → bit result b ≡ (not (a == b) && is_option (B.meaning book.now) i b) }
 {
     all_options(book, i) & !one_option(a)
-}
-
-// The options of item i that the set has; none where there is no such item.
-pub(crate) fn item_options<B: RuleBook>(book: &B, set: &[u32; 32], i: usize) -> u32
-    ensures { (a : ℕ) → bit result a ≡ (is_option (B.meaning book.now) i a && words set.now i a) }
-{
-    if i >= 32 {
-        return 0;
-    }
-    all_options(book, i) & set[i]
 }
 
 // The options of item i that are not struck.

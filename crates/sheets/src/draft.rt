@@ -1,4 +1,4 @@
-// What the lines of a sheet have given so far, in the grid book's layout, and the pair line that is due.
+// What the lines of a sheet have given so far, in the grid book's layout and with no heap, and the pair line that is due.
 #[derive(Drop)]
 pub struct Draft {
     pub opening: Opening,

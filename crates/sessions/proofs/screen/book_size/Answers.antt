@@ -9,4 +9,4 @@ use Rattle.sessions.proofs.screen.book_size.Goals as goal
 pub returns : goal.returns
 returns g c =
     let m = g.B.RuleBook.meaning c.args.book.now in
-    c.set_size.ensures ∙ (ap (size m) c.unstruck_words.ensures ∙ (ap (λ (s : Set). size m (unstruck m s)) (words_none 32) ∙ ap (size m) (all_unstruck m)))
+    c.size.ensures ∙ (ap (size m) c.unstruck_words-all.ensures ∙ (ap (λ (s : Set). size m (unstruck m s)) (words_none 32) ∙ ap (size m) (all_unstruck m)))

@@ -29,7 +29,7 @@ pub overflow_sub-crossed : goal.overflow_sub-crossed
 overflow_sub-crossed g c =
     let m = g.B.RuleBook.meaning c.args.book.now in
     let f = size_mono m (words c.propagate.new.domains) (words c.unstruck_words-start.result) c.propagate.ensures.largest.inside in
-    omega (arith, c.set_size-number.ensures, c.set_size.ensures)
+    omega (arith, c.size-number.ensures, c.size.ensures)
 
 pub returns-in-Some : goal.returns-in-Some
 returns-in-Some g c =
@@ -64,4 +64,4 @@ returns g c =
       past = c.propagate.ensures.past;
     } in
     succeeds c.args.level c.partner_count.result c.partner_count.ensures.value m (g.B.RuleBook.lawful c.args.book.now) (words c.args.struck.now) (words c.unstruck_words-start.result) (words c.propagate.new.domains) c.unstruck_words-start.ensures
-    c.propagate.ensures.largest c.propagate.ensures.there q q' tidy c.in_default.ensures c.propagate.ensures.counted c.set_size-number.result c.set_size.result c.set_size-number.ensures c.set_size.ensures
+    c.propagate.ensures.largest c.propagate.ensures.there q q' tidy c.in_default.ensures c.propagate.ensures.counted c.size-number.result c.size.result c.size-number.ensures c.size.ensures
