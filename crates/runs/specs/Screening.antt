@@ -1,11 +1,13 @@
 -- What a screening says and does, by what it was handed.
--- Room: the count buffer, and of both lists how many wait and how many may
+-- Room: the count buffer, and of both lists what waits and how much may
 -- roomy: the buffer and the lists are large enough for the book, and nothing waits
 -- screen_due: the level to screen at, or the refusal due: 7, 5, 6
 -- Succeeds: it keeps the largest closed set, answers its size and what it crossed out, and fills the count bytes
 -- Fails: it found nothing consistent, so the session stays, and the count bytes are 0
 -- Screens: a refused screening changes nothing; else it succeeds or says that nothing is consistent
 use Rattle.std.specs.Prelude.{◌≡◌, ℕ, ◌-◌, ◌*◌, ◌<◌, ◌≤◌, Bool, if◌then◌else◌, ◌&&◌, T, List, length, Some, None, Ok, Err, Result, ◌==◌, nat_le, nat_lt, slice_index}
+use Rattle.bags.specs.Bags.{Bag, none, size as number}
+use Rattle.lists.specs.declared.choice.Choice.{Choice}
 use Rattle.meaning.specs.Meaning.{Meaning}
 use Rattle.meaning.specs.declared.refusal.Refusal.{Refusal}
 use Rattle.meaning.specs.declared.refusal.Refusal.TheVariants.{Barred, NoSuchLevel, NoRoom, NothingConsistent}
@@ -21,16 +23,16 @@ use Rattle.runs.specs.Outcome.{Keeps, FindsNone}
 
 pub record Room : Type 0 where
   pub bytes : List ℕ
-  pub items_waiting : ℕ
+  pub items_waiting : Bag ℕ
   pub items_room : ℕ
-  pub options_waiting : ℕ
+  pub options_waiting : Bag Choice
   pub options_room : ℕ
 
 abbrev pub roomy : Meaning → Room → Bool
 roomy m q =
     nat_le (1024 * m.items) (length q.bytes)
     && (nat_le m.items q.items_room && (nat_le (size m (is_option m)) q.options_room
-    && (q.items_waiting == 0 && q.options_waiting == 0)))
+    && (number q.items_waiting == 0 && number q.options_waiting == 0)))
 
 abbrev pub screen_due : Meaning → Bool → ℕ → Room → Result Level Refusal
 screen_due m barred level q =
@@ -41,8 +43,8 @@ screen_due m barred level q =
 
 -- what it leaves: the same lists emptied, and other bytes only among the first 1024 for each item
 pub record Tidy (m : Meaning) (q q' : Room) : Type 0 where
-  pub items_empty : q'.items_waiting ≡ 0
-  pub options_empty : q'.options_waiting ≡ 0
+  pub items_empty : q'.items_waiting ≡ none
+  pub options_empty : q'.options_waiting ≡ none
   pub items_room : q'.items_room ≡ q.items_room
   pub options_room : q'.options_room ≡ q.options_room
   pub same_length : length q'.bytes ≡ length q.bytes

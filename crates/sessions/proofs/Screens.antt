@@ -4,6 +4,8 @@ use mathlib.Core.Path.{fun_ext}
 use mathlib.Core.Bool.{and-true}
 use Rattle.std.proofs.lemmas.Bool.Decides.{nat_tests}
 use Rattle.bits.proofs.Tests.{and_l, and_r, and_i, of_true, to_false}
+use Rattle.bags.specs.Bags.{none, size as number}
+use Rattle.bags.proofs.BagLaws.{size_none}
 use Rattle.meaning.specs.Meaning.{Meaning, Lawful}
 use Rattle.levels.specs.Sets.{Set}
 use Rattle.levels.specs.Levels.{level_on}
@@ -30,8 +32,8 @@ pub record Enough (m : Meaning) (q : Room) : Type 0 where
   pub long : 1024 * m.items ≤ length q.bytes
   pub items : m.items ≤ q.items_room
   pub options : size m (is_option m) ≤ q.options_room
-  pub no_items : q.items_waiting ≡ 0
-  pub no_options : q.options_waiting ≡ 0
+  pub no_items : q.items_waiting ≡ none
+  pub no_options : q.options_waiting ≡ none
 
 pub enough : (m : Meaning) (q : Room) → roomy m q ≡ true → Enough m q
 enough m q e =
@@ -43,8 +45,8 @@ enough m q e =
       long = leb→le _ _ (and_l (leb (1024 * m.items) (length q.bytes)) _ t);
       items = leb→le _ _ (and_l (leb m.items q.items_room) _ t1);
       options = leb→le _ _ (and_l (leb (size m (is_option m)) q.options_room) _ t2);
-      no_items = eqb→eq _ _ (and_l (eqb q.items_waiting 0) _ t3);
-      no_options = eqb→eq _ _ (and_r (eqb q.items_waiting 0) _ t3);
+      no_items = size_none q.items_waiting (eqb→eq _ _ (and_l (eqb (number q.items_waiting) 0) _ t3));
+      no_options = size_none q.options_waiting (eqb→eq _ _ (and_r (eqb (number q.items_waiting) 0) _ t3));
     }
 
 -- where nothing is struck, all options are unstruck

@@ -1,11 +1,11 @@
 -- What a session's screening was handed, did and said, in the words of runs.
--- room: the count buffer, and of both lists how many wait and how many may
+-- room: the count buffer, and of both lists what waits and how much may
 -- answered: a screening's result as the answer of a run
 -- at: the session with these options struck and kept
 -- Settles: what an admitted screening at level l comes to, with the options t struck
 -- Early r P: P holds where the screening was refused before it began, that is with another refusal than 8
 use Rattle.std.specs.Prelude.{◌≡◌, ℕ, Bool, List, Some, Ok, Err, Result, ◌≢◌}
-use Rattle.bags.specs.Bags.{Bag, size}
+use Rattle.bags.specs.Bags.{Bag}
 use Rattle.lists.specs.declared.choice.Choice.{Choice}
 use Rattle.meaning.specs.Meaning.{Meaning}
 use Rattle.meaning.specs.declared.refusal.Refusal.{Refusal}
@@ -21,9 +21,9 @@ use Rattle.sessions.specs.declared.settled.Settled.{Settled}
 abbrev pub room : List ℕ → Bag Choice → ℕ → Bag ℕ → ℕ → Room
 room bytes options options_room items items_room = record {
   bytes = bytes;
-  items_waiting = size items;
+  items_waiting = items;
   items_room = items_room;
-  options_waiting = size options;
+  options_waiting = options;
   options_room = options_room;
 }
 

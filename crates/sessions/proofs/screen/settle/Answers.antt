@@ -20,7 +20,7 @@ propagate-requires g c =
     record {
       long = h.long;
       there = subst (λ (s : Set). There m s) (sym e) (unstruck_there m t);
-      empty = (size_none (g.O.WaitingList.waits c.args.options.now) h.no_options, size_none (g.I.WaitingList.waits c.args.items.now) h.no_items);
+      empty = (h.no_options, h.no_items);
       options = let f = unstruck_few m t in let s = ap (size m) e in omega (arith, h.options);
       items = h.items;
     }
@@ -37,8 +37,8 @@ returns-in-Some g c =
     let q : Room = room c.args.counts.now (g.O.WaitingList.waits c.args.options.now) (g.O.WaitingList.room c.args.options.now) (g.I.WaitingList.waits c.args.items.now) (g.I.WaitingList.room c.args.items.now) in
     let q' : Room = room c.clear.new.counts (g.O.WaitingList.waits c.propagate.new.options) (g.O.WaitingList.room c.propagate.new.options) (g.I.WaitingList.waits c.propagate.new.items) (g.I.WaitingList.room c.propagate.new.items) in
     let tidy : Tidy m q q' = record {
-      items_empty = ap number c.propagate.ensures.empty.1;
-      options_empty = ap number c.propagate.ensures.empty.0;
+      items_empty = c.propagate.ensures.empty.1;
+      options_empty = c.propagate.ensures.empty.0;
       items_room = c.propagate.ensures.items;
       options_room = c.propagate.ensures.options;
       same_length = c.clear.auto.counts ∙ c.propagate.ensures.length;
@@ -56,8 +56,8 @@ returns g c =
     let q : Room = room c.args.counts.now (g.O.WaitingList.waits c.args.options.now) (g.O.WaitingList.room c.args.options.now) (g.I.WaitingList.waits c.args.items.now) (g.I.WaitingList.room c.args.items.now) in
     let q' : Room = room c.propagate.new.counts (g.O.WaitingList.waits c.propagate.new.options) (g.O.WaitingList.room c.propagate.new.options) (g.I.WaitingList.waits c.propagate.new.items) (g.I.WaitingList.room c.propagate.new.items) in
     let tidy : Tidy m q q' = record {
-      items_empty = ap number c.propagate.ensures.empty.1;
-      options_empty = ap number c.propagate.ensures.empty.0;
+      items_empty = c.propagate.ensures.empty.1;
+      options_empty = c.propagate.ensures.empty.0;
       items_room = c.propagate.ensures.items;
       options_room = c.propagate.ensures.options;
       same_length = c.propagate.ensures.length;
