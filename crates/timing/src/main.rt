@@ -11,9 +11,8 @@ use lists::newest::Newest;
 use lists::oldest::Oldest;
 use lists::waiting::WaitingList;
 use sessions::session::Session;
-use std::env;
-use std::io;
 use std::time::{Duration, Instant};
+use std::{env, io};
 
 const NO_CHOICE: Choice = Choice { item: 0, option: 0 };
 

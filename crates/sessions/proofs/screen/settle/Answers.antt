@@ -1,6 +1,4 @@
 use Rattle.std.proofs.Common.{◌≡◌, sym, refl, ap, ◌∙◌, subst, arith}
-use Rattle.bags.specs.Bags.{size as number}
-use Rattle.bags.proofs.BagLaws.{size_none}
 use Rattle.levels.specs.Sets.{Set, words}
 use Rattle.levels.specs.Size.{size}
 use Rattle.levels.proofs.Sizes.{size_mono}
