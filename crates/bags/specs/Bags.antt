@@ -39,7 +39,7 @@ length_perm xs ys p = ∥∥₁_elim p (ℕ_set (length xs) (length ys)) length_
 abbrev pub size : {T : Type 0} → Bag T → ℕ
 size b = lift ℕ_set length length_perm b
 
--- 1 for an element that passes the test
+-- 1 for an element that passes the test (bags use no other crate, so they say it themselves)
 abbrev pub one_if : Bool → ℕ
 one_if b = if b then 1 else 0
 

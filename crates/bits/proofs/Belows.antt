@@ -1,31 +1,14 @@
--- Laws of `every` and `some`: one more number, and what each says of a number below the bound.
-use mathlib.Core.Path.{◌≡◌, refl, sym, subst}
-use mathlib.Core.Bool.{Bool, true, false, ◌&&◌, ◌||◌}
+-- What `every` and `some` say of a number below the bound.
+use mathlib.Core.Path.{◌≡◌, sym, subst}
+use mathlib.Core.Bool.{Bool, true, false}
 use mathlib.Core.Logic.{◌⊎◌, inl, inr}
-use Prim.Native.Nat.{ℕ, zero, suc, ◌+◌, ◌<◌}
+use Prim.Native.Nat.{ℕ, zero, suc, ◌<◌}
 use native.Mathlib.Nat.{le_refl, not-suc-le-zero}
-use native.Mathlib.Numerals.{add-one}
 use native.Mathlib.Omega.{arith}
 use native.Mathlib.Decide.{ℕ_discrete}
 use lib.Dec.{T}
 use Rattle.bits.specs.Below.{every, some}
 use Rattle.bits.proofs.Tests.{and_l, and_r, and_i, or_cases, or_l, or_r, T_or_not, to_true, to_false, of_true, of_false}
-
-pub every_none : (p : ℕ → Bool) → every 0 p ≡ true
-unfolding every
-every_none p = refl
-
-pub every_more : (n : ℕ) (p : ℕ → Bool) → every (n + 1) p ≡ (p n && every n p)
-unfolding every
-every_more n p = rw add-one
-
-pub some_none : (p : ℕ → Bool) → some 0 p ≡ false
-unfolding some
-some_none p = refl
-
-pub some_more : (n : ℕ) (p : ℕ → Bool) → some (n + 1) p ≡ (p n || some n p)
-unfolding some
-some_more n p = rw add-one
 
 -- a number below the next is that one or below it
 pub below_cases : (k n : ℕ) → k < suc n → (k ≡ n) ⊎ (k < n)
@@ -78,6 +61,3 @@ every_at n p e k h = to_true (p k) (every_e n p (of_true e) k h)
 
 pub every_fails : (n : ℕ) (p : ℕ → Bool) (k : ℕ) → k < n → p k ≡ false → every n p ≡ false
 every_fails n p k h e = to_false (every n p) (λ t. of_false e (every_e n p t k h))
-
-pub some_holds : (n : ℕ) (p : ℕ → Bool) (k : ℕ) → k < n → p k ≡ true → some n p ≡ true
-some_holds n p k h e = to_true (some n p) (some_i n p k h (of_true e))

@@ -4,7 +4,6 @@ use mathlib.Core.Bool.{Bool, true, false, ◌&&◌, not}
 use mathlib.Core.Logic.{◌≢◌, inl, inr}
 use Prim.Native.Nat.{ℕ, zero, suc, ◌+◌, ◌<◌, ◌≤◌}
 use native.Mathlib.Nat.{le_refl, not-suc-le-zero}
-use native.Mathlib.Numerals.{add-one}
 use native.Mathlib.Omega.{arith}
 use native.Mathlib.Decide.{ℕ_discrete}
 use lib.Dec.{T, eqb}
@@ -100,10 +99,6 @@ count_lone (suc n) f b h =
           let q : count n f ≤ 1 = count_lone n f b (λ k lt. h k (omega arith)) in
           omega arith
     ]
-
-pub count_more : (n : ℕ) (f : ℕ → Bool) → count (n + 1) f ≡ one_if (f n) + count n f
-unfolding count
-count_more n f = rw add-one
 
 pub count_cong : (n : ℕ) (f g : ℕ → Bool) → ((k : ℕ) → k < n → f k ≡ g k) → count n f ≡ count n g
 unfolding count

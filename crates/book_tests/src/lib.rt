@@ -19,7 +19,7 @@ use meaning::refusal::Refusal;
 #[cfg(test)]
 use std::array;
 
-// What a check answers, with the refusal by its number.
+// What a check answers, with the refusal by its number, which is what the tests of formats speak of.
 #[cfg(test)]
 fn numbered(answer: Result<(), Refusal>) -> Result<(), u32> {
     answer.map_err(|refusal| refusal.number())

@@ -1,5 +1,5 @@
-// The contents of a clearance book's parts, one condition a method. What a method still asks is where its numbers lie, which
-// no struct could hold.
+// The contents of a clearance book's parts, one condition a method. A method still asks where its numbers lie: a struct
+// of them with that fact would have to be made, with a proof, at each call, and opened in each clause.
 ghost use Rattle.std.specs.Prelude.{◌≡◌, ◌<◌, ◌≤◌, true, slice_index};
 ghost use Rattle.bits.specs.Below.{every};
 ghost use Rattle.meaning.specs.Clearance.{clearance_meaning, clearance_sizes, gap_of, gaps_right, green, green_right, greens_right};
@@ -9,7 +9,8 @@ ghost use Rattle.meaning.specs.Parts.{IsSized};
 use crate::pair::pair_number;
 use meaning::parts::ClearanceParts;
 
-// Parts of 1 to 32 items, with memory enough for them.
+// Parts of 1 to 32 items, with memory enough for them. One type for both kinds would name its fact by the trait that is
+// implemented through it, and could not derive `Copy`.
 #[derive(Clone, Copy)]
 pub struct SizedClearance<'a> {
     pub parts: ClearanceParts<'a>,

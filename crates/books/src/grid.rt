@@ -30,6 +30,7 @@ impl<'a> Parts for GridParts<'a> {
         }
     }
 
+    // The accessors are as short as a trait can ask for them, for each kind.
     fn edition(&self) -> u32 {
         self.edition
     }

@@ -21,17 +21,18 @@ pub struct JointBook<P: RuleBook, Q: RuleBook> {
 impl<P: RuleBook + Copy, Q: RuleBook + Copy> Copy for JointBook<P, Q> {}
 
 impl<P: RuleBook + Clone, Q: RuleBook + Clone> Clone for JointBook<P, Q> {
-    ghost is_clone = { λ x y. P.is_clone x.first y.first × Q.is_clone x.second y.second };
+    ghost is_clone = { λ x y. P.is_clone x.first y.first × Q.is_clone x.second y.second × (P.meaning y.first ≡ P.meaning x.first → Q.meaning y.second ≡ Q.meaning x.second → y.fits ≡ x.fits) };
 
     ghost is_infallible = { λ x. P.is_infallible x.first × Q.is_infallible x.second };
 
-    // Clones are asked anew whether they agree, since a clone of a book may be another book.
+    // Clones are asked anew whether they agree, since a clone of a book may mean something else.
     fn clone(&self) -> Result<JointBook<P, Q>, AllocError> {
         Ok(JointBook::new(self.first.clone()?, self.second.clone()?))
     }
 }
 
-// The first n items have as many options in one book as in the other.
+// The first n items have as many options in one book as in the other. Both books are parameters here and below: the joint book,
+// which would hold them, is yet to be made.
 fn same_counts<P: RuleBook, Q: RuleBook>(first: &P, second: &Q, n: usize) -> bool
     ensures { result ≡ every n (λ i. nat_eq ((P.meaning first.now).options i) ((Q.meaning second.now).options i)) }
 {

@@ -9,7 +9,7 @@ pub fn limits_hold(edition: u32, items: usize) -> bool
     items >= 1 && items <= 32 && edition >= 1 && edition <= 9999
 }
 
-// Each count within 1 to 32.
+// Each count within 1 to 32, by the item's number, as the definition goes.
 pub fn counts_hold(items: usize, counts: &[u8]) -> bool
     requires { items ≤ length counts.now }
     ensures { result ≡ counts_right items counts.now }

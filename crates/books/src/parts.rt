@@ -1,4 +1,5 @@
-// What a kind of parts answers, so that books can be made of it. Only sized parts are asked for what they hold.
+// What a kind of parts answers, so that books can be made of it. Only sized parts are asked for what they hold; that stands
+// in each such clause, since a struct with the fact would need this very trait.
 ghost use Rattle.std.specs.Prelude.{◌≡◌, ◌<◌, ◌≤◌, Bool, true};
 ghost use Rattle.meaning.specs.Blank.{blank};
 ghost use Rattle.meaning.specs.Meaning.{Lawful, Meaning};

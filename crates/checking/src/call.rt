@@ -18,8 +18,8 @@ fn admitted<B: RuleBook>(book: &B, level: u32, set: &[u32]) -> Result<Level, Ref
     Ok(level)
 }
 
-// Whether the first n words, for a book of n items, are a consistent set of the level. The level is a number here and below,
-// since any number is answered, an unknown one by its refusal.
+// Whether the first n words, for a book of n items, are a consistent set of the level. The level is a number in each call
+// here, since any number is answered, an unknown one by its refusal.
 pub fn is_consistent<B: RuleBook>(book: &B, level: u32, set: &[u32]) -> Result<bool, Refusal>
     ensures { Judges (B.meaning book.now) set.now (due (B.meaning book.now) level set.now) result }
 {
@@ -41,6 +41,7 @@ pub fn failing_on<B: RuleBook>(
     ensures out { RuledOut (B.meaning book.now) set.now i a (option_due (B.meaning book.now) level set.now i a) result }
 {
     let level = admitted(book, level, set)?;
+    // Sessions ask the same two in `check_option`; to share them, both would need a crate and a definition between them.
     if i >= book.items() {
         return Err(Refusal::NoSuchItem);
     }

@@ -12,6 +12,7 @@ use std::io;
 
 const NO_CHOICE: Choice = Choice { item: 0, option: 0 };
 
+// Adds to a refusal's own text where nothing is left, which its place says only as a number.
 fn show_refusal(rt: &impl Print, refusal: Refusal) -> io::Result<()> {
     match refusal {
         Refusal::NothingConsistent { item } => println!(rt;
@@ -21,6 +22,7 @@ fn show_refusal(rt: &impl Print, refusal: Refusal) -> io::Result<()> {
     }
 }
 
+// An answer is a `Result`, which is not this repository's to give a `Display`.
 fn show_answer(rt: &impl Print, answer: Answer) -> io::Result<()> {
     match answer {
         Ok(None) => println!(rt; "done"),

@@ -58,10 +58,8 @@ impl Signals {
 // Prints the options of item 1 that stand with option a of item 0.
 fn show_partners<B: RuleBook>(rt: &impl Print, book: &B, a: usize) -> io::Result<()> {
     print!(rt; "  option {a} of item 0 stands with")?;
-    for b in 0..book.options(1) {
-        if book.together(0, a, 1, b) {
-            print!(rt; " {b}")?;
-        }
+    for b in (0..book.options(1)).filter(|b| book.together(0, a, 1, *b)) {
+        print!(rt; " {b}")?;
     }
     println!(rt; " of item 1")
 }

@@ -6,7 +6,7 @@ use levels::level::Level;
 use meaning::refusal::Refusal;
 use std::io;
 
-// What an option that fails the level lacks on the item named.
+// What an option that fails the level lacks on the item named; no name of the level, so not its `Display`.
 fn lack(level: Level) -> &'static str {
     match level {
         Level::Arc => "has no partner",
@@ -32,7 +32,7 @@ pub fn show_set(rt: &impl Print, set: &[u32]) -> io::Result<()> {
     Ok(())
 }
 
-// Prints each option of item i that fails the level, and where.
+// Prints each option of item i that fails the level, and where. The level stays a number here and below, as the calls take it.
 fn show_failures<B: RuleBook>(
     rt: &impl Print,
     book: &B,

@@ -43,6 +43,7 @@ impl<'a, T: Copy> WaitingList<T> for Newest<'a, T> {
         self.count
     }
 
+    // As short as the trait can ask for it, here and in `Oldest`.
     fn capacity(&self) -> usize {
         self.cells.len()
     }

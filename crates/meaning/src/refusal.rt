@@ -23,7 +23,7 @@ pub enum Refusal {
 }
 
 impl Refusal {
-    // The refusal's number, by which reports and other languages know it.
+    // The refusal's number, by which reports and other languages know it. No conversion, since a refusal has a place too.
     pub fn number(self) -> u32
         ensures { result ≡ number_of self }
     {

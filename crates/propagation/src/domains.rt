@@ -1,5 +1,6 @@
 // The domains of the items while options are crossed out, as bits of words. The support counts and the lists stay parameters
-// beside them: of those that a step takes it changes only some, and with all in one struct it would have to say which stay.
+// beside them: the functions below a step change only some of these, and with all in one struct each would have to say which
+// stay.
 #[derive(Drop)]
 pub struct Domains {
     // The options that are not crossed out.

@@ -10,7 +10,9 @@ use crate::screening::Screening;
 use bits::bit::has_bit;
 use books::rule::RuleBook;
 
-// Lowers the count on j of each option of i that the word has.
+// Lowers the count on j of each option of i that the word has. The counts stand 32 bytes apart, so no part of the slice is
+// walked whole. That the bytes are enough is asked here and in `counts.rt`: a struct of book and bytes would be made anew by
+// each function that writes them.
 fn lower(counts: &mut [u8], word: u32, i: usize, j: usize)
     requires long { 1024 * i + 1024 ≤ length counts.old }
     requires there { (i < 32) × (j < 32) }

@@ -9,7 +9,7 @@ use bits::bit::has_bit;
 use books::rule::RuleBook;
 use lists::waiting::WaitingList;
 
-// Marks item i and puts it on the list, unless it waits there.
+// Marks item i and puts it on the list, unless it waits there. That n is small is asked of a number, here and below.
 pub fn mark<I: WaitingList<u8>>(n: usize, marked: &mut u32, items: &mut I, i: usize)
     requires few { n ≤ 32 }
     requires there { i < n }

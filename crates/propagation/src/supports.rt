@@ -24,7 +24,7 @@ fn stand<B: RuleBook>(book: &B, rows: &[u32; 32768], i: usize, a: usize, k: usiz
     }
 }
 
-// The options of k that stand with a of i.
+// The options of k that stand with a of i. A `fold` would say the loop's invariant once more, of the list of what went before.
 fn support_word<B: RuleBook>(book: &B, rows: &[u32; 32768], i: usize, a: usize, k: usize) -> u32
     requires option { (i < (B.meaning book.now).items) × (a < 32) }
     requires linked { Linked (B.meaning book.now) i k }
@@ -38,7 +38,7 @@ fn support_word<B: RuleBook>(book: &B, rows: &[u32; 32768], i: usize, a: usize, 
     word
 }
 
-// Fills the table for all items of the book.
+// Fills the table for all items of the book. It reads the table while it fills it, so the words are not walked by `iter_mut`.
 pub fn fill_supports<B: RuleBook>(book: &B, rows: &mut [u32; 32768])
     ensures { Supports (B.meaning book.now) rows.new }
 {

@@ -1,5 +1,6 @@
-// Whether an option meets the count c in a set. Every test reads the table, so the book is asked only for links. What
-// a method asks is where its numbers lie, and that the counts handed to it are those of the set: no struct could hold either.
+// Whether an option meets the count c in a set. Every test reads the table, so the book is asked only for links. A
+// method asks where its numbers lie, which a struct would have to be made for at each call, with a proof, and opened in each
+// clause; and that the counts of the option are those of the set, which `Sound` says of all of them between two steps.
 ghost use Rattle.std.specs.Prelude.{◌≡◌, ℕ, ◌*◌, ◌<◌, ◌≤◌, ◌&&◌, length};
 ghost use Rattle.bits.specs.Below.{every, some};
 ghost use Rattle.bits.specs.Bits.{bit};

@@ -18,6 +18,7 @@ fn fewest_kept<B: RuleBook>(book: &B, marks: &Marks) -> Option<usize>
         book,
         set: &marks.kept,
     };
+    // `min_by_key` says that its calls fold to its result: the loop's invariant once more, of the list of what went before.
     let mut best = None;
     for i in 0..book.items() {
         let number = kept.count(i);

@@ -40,6 +40,7 @@ impl<B: RuleBook> Options<'_, B> {
     pub fn size(&self) -> usize
         ensures { result ≡ size (B.meaning self.now.book.now) (words self.now.set.now) }
     {
+        // The bound that a sum asks for is the one that the loop finds on its way.
         let mut total = 0;
         for i in 0..self.book.items() {
             total += self.count(i);

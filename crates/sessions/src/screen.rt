@@ -47,7 +47,7 @@ fn has_room<B: RuleBook, O: WaitingList<Choice>, I: WaitingList<u8>>(
         && options.len() == 0
 }
 
-// Clears the bytes of n items.
+// Clears the bytes of n items; that n is small is asked of a number.
 fn clear(counts: &mut [u8], n: usize)
     requires few { n ≤ 32 }
     requires long { 1024 * n ≤ length counts.old }
@@ -101,7 +101,8 @@ fn settle<B: RuleBook, O: WaitingList<Choice>, I: WaitingList<u8>>(
 impl<B: RuleBook> Session<B> {
     // Keeps the largest consistent set of the level among the options not struck, and answers how many it kept and how
     // many it crossed out. A refusal leaves the session as it was. Any number may be handed as the level. Buffer and lists
-    // stay three parameters: in a struct, every clause would name them through it and none would go.
+    // are what callers have, so they stay three parameters; a struct of them could not be seen as one value, since a model's value
+    // needs a code and bags have none.
     pub fn screen<O: WaitingList<Choice>, I: WaitingList<u8>>(
         &mut self,
         level: u32,

@@ -53,19 +53,17 @@ impl<B: RuleBook> Session<B> {
     pub fn kept(&self, i: usize) -> u32
         ensures { (a : ℕ) → bit result a ≡ is_shown (B.meaning self.now.book) (view self.now).barred (view self.now).kept i a }
     {
-        match &self.marks {
-            Some(marks) => self.shown(&marks.kept, i),
-            None => 0,
-        }
+        self.marks
+            .as_ref()
+            .map_or(0, |marks| self.shown(&marks.kept, i))
     }
 
     // The word of the options of item i that are struck, likewise.
     pub fn struck(&self, i: usize) -> u32
         ensures { (a : ℕ) → bit result a ≡ is_shown (B.meaning self.now.book) (view self.now).barred (view self.now).struck i a }
     {
-        match &self.marks {
-            Some(marks) => self.shown(&marks.struck, i),
-            None => 0,
-        }
+        self.marks
+            .as_ref()
+            .map_or(0, |marks| self.shown(&marks.struck, i))
     }
 }

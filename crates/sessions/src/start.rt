@@ -7,7 +7,7 @@ ghost use Rattle.runs.specs.State.{is_option, unstruck};
 use books::rule::RuleBook;
 use std::array;
 
-// The word whose lowest n bits are set.
+// The word whose lowest n bits are set; the bound is one of a number.
 fn low_bits(n: usize) -> u32
     requires { n ≤ 32 }
     ensures { (a : ℕ) → bit result a ≡ nat_lt a n }
@@ -37,7 +37,7 @@ pub(crate) fn other_options<B: RuleBook>(book: &B, i: usize, a: usize) -> u32
     all_options(book, i) & !one_option(a)
 }
 
-// The options of item i that are not struck.
+// The options of item i that are not struck; likewise.
 fn unstruck_options<B: RuleBook>(book: &B, struck: &[u32; 32], i: usize) -> u32
     requires { i < 32 }
     ensures { (a : ℕ) → bit result a ≡ unstruck (B.meaning book.now) (words struck.now) i a }
