@@ -1,4 +1,5 @@
-// Asks the checking calls and prints what they say.
+// Asks the checking calls and prints what they say. The handle that prints is no part of a book, so both are parameters
+// throughout.
 use bits::bit::has_bit;
 use books::rule::RuleBook;
 use checking::call::{failing_on, is_consistent};

@@ -1,4 +1,5 @@
-// The support counts: filled from the table at the start, and cleared at the end where nothing is to be counted.
+// The support counts: filled from the table at the start, and cleared at the end where nothing is to be counted. A set and the
+// counts meet here as parameters: before the first call and after the last the counts are not yet, or no more, those of the set.
 ghost use Rattle.std.specs.Prelude.{◌≡◌, ℕ, ◌*◌, ◌<◌, ◌≤◌, ◌&&◌, length, if◌then◌else◌, slice_index};
 ghost use Rattle.bits.specs.Below.{count};
 ghost use Rattle.bits.specs.Bits.{bit};
