@@ -5,7 +5,7 @@ use mathlib.Core.List.Perm
 use mathlib.Core.List.{perm_append_singleton}
 use mathlib.Core.Quot.{sound, Quot-set, ind}
 use native.Mathlib.Nat.{ℕ_set}
-use Rattle.bags.specs.Bags.{Bag, bag, none, add, size, many}
+use Rattle.bags.specs.Bags.{Bag, bag, none, add, size, many, Each}
 
 -- the order in which two elements are added does not count
 pub add_swap : {T : Type 0} (x y : T) (b : Bag T) → add x (add y b) ≡ add y (add x b)
@@ -41,3 +41,9 @@ size_none {T} b = ind {β = λ (b : Bag T). size b ≡ 0 → b ≡ none} one_way
 -- what a call of `put` leaves where there is room
 pub put_one : {T : Type 0} (after before : Bag T) (x : T) (free : Bool) → after ≡ cond free (add x before) before → free ≡ true → after ≡ add x before
 put_one {T} after before x free e is = e ∙ ap (λ (b : Bool). cond {A = Bag T} b (add x before) before) is
+
+pub each_one : {T : Type 0} (P : T → Type 0) (x : T) (b : Bag T) → Each P (add x b) → P x
+each_one P x b e = e x b refl
+
+pub each_rest : {T : Type 0} (P : T → Type 0) (x : T) (b : Bag T) → Each P (add x b) → Each P b
+each_rest P x b e y others is = e y (add x others) (ap (add x) is ∙ add_swap x y others)

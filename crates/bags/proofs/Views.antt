@@ -11,6 +11,9 @@ use Rattle.bags.specs.Views.{stacked, turned, ringed, wrapped}
 pub stacked_within : {T : Type 0} (count : ℕ) (xs : List T) → size (bag (stacked count xs)) ≤ length xs
 stacked_within count xs = omega (arith, length-take count xs)
 
+pub length_stacked : {T : Type 0} (n : ℕ) (xs : List T) → n ≤ length xs → length (stacked n xs) ≡ n
+length_stacked n xs le = length-take-le n xs le
+
 pub stacked_push : {T : Type 0} (n : ℕ) (xs : List T) (x : T) → n < length xs → stacked (n + 1) (set xs n x) ≡ stacked n xs ++ x ∷ []
 stacked_push n xs x lt = take_more_set xs n x lt
 

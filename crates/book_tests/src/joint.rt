@@ -5,6 +5,7 @@ use books::grid::GridBook;
 use books::joint::JointBook;
 use books::rule::RuleBook;
 use meaning::parts::{ClearanceParts, GridParts};
+use std::alloc::AllocError;
 
 // The manual links items 0 and 1, of which only the unlike options stand together.
 fn manual<'a>(rows: &'a [u32]) -> GridBook<'a> {
@@ -66,6 +67,25 @@ fn manual_and_site(rt: HostRuntime) {
     assert!(rt;
         !book.together(1, 0, 2, 0) && book.together(2, 0, 1, 1) && book.together(0, 0, 2, 1)
     );
+}
+
+// A struct over books of any kind may hold a joint book of joint books.
+#[derive(Clone, Copy)]
+struct Nested<P: RuleBook, Q: RuleBook> {
+    book: JointBook<P, JointBook<Q, P>>,
+}
+
+#[test]
+fn joint_book_in_a_struct(rt: HostRuntime) -> Result<(), AllocError> {
+    let (rows, starts) = (&unlike::<96>(), &site_starts());
+    let inner = JointBook::new(site(starts), manual(rows));
+    let nested = Nested {
+        book: JointBook::new(manual(rows), inner),
+    };
+    let copy = nested.clone()?;
+    assert!(rt; copy.book.edition() == 7 && copy.book.linked(1, 2));
+    assert!(rt; copy.book.together(0, 0, 1, 1) && !copy.book.together(0, 0, 1, 0));
+    Ok(())
 }
 
 #[test]

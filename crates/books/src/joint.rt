@@ -1,33 +1,36 @@
 // The joint book: two rule books of any kind, read as one.
 ghost use Rattle.std.specs.Prelude.{◌≡◌, nat_eq};
 ghost use Rattle.bits.specs.Below.{every};
-ghost use Rattle.meaning.specs.Joint.{agree, joint, joint_check};
-ghost use Rattle.meaning.proofs.JointLaws.{joint_lawful};
+ghost use Rattle.meaning.specs.Joint.{agree, joined, joint, joint_check};
+ghost use Rattle.meaning.proofs.JointLaws.{joined_lawful};
 
 use crate::rule::RuleBook;
 use meaning::refusal::Refusal;
 use std::alloc::AllocError;
 
 // Whether the two books agree is found out once, when the joint book is made. It stays a flag beside them, since both books
-// stay in either case: a book of any kind may not be let go.
+// stay in either case: a book of any kind may not be let go. No ghost field says what it tells: then a clone, of which nothing says
+// that it is the same book, would ask its books anew, and a struct of generic books could not hold a joint book.
 pub struct JointBook<P: RuleBook, Q: RuleBook> {
     first: P,
     second: Q,
     fits: bool,
-    ghost told: { fits ≡ agree (P.meaning first) (Q.meaning second) },
 }
 
-// Written by hand: a generic struct with a ghost field derives neither.
 impl<P: RuleBook + Copy, Q: RuleBook + Copy> Copy for JointBook<P, Q> {}
 
+// As a derive writes it, by hand so that what a clone keeps is said and can be turned: both books are clones, and the flag stays.
 impl<P: RuleBook + Clone, Q: RuleBook + Clone> Clone for JointBook<P, Q> {
-    ghost is_clone = { λ x y. P.is_clone x.first y.first × Q.is_clone x.second y.second × (P.meaning y.first ≡ P.meaning x.first → Q.meaning y.second ≡ Q.meaning x.second → y.fits ≡ x.fits) };
+    ghost is_clone = { λ x y. P.is_clone x.first y.first × Q.is_clone x.second y.second × (y.fits ≡ x.fits) };
 
     ghost is_infallible = { λ x. P.is_infallible x.first × Q.is_infallible x.second };
 
-    // Clones are asked anew whether they agree, since a clone of a book may mean something else.
     fn clone(&self) -> Result<JointBook<P, Q>, AllocError> {
-        Ok(JointBook::new(self.first.clone()?, self.second.clone()?))
+        Ok(JointBook {
+            first: self.first.clone()?,
+            second: self.second.clone()?,
+            fits: self.fits,
+        })
     }
 }
 
@@ -74,13 +77,14 @@ impl<P: RuleBook, Q: RuleBook> JointBook<P, Q> {
 }
 
 impl<P: RuleBook, Q: RuleBook> RuleBook for JointBook<P, Q> {
-    ghost meaning = { λ b. joint (P.meaning b.first) (Q.meaning b.second) };
+    // The second book is heard only of the first's items and where it links them, which is lawful for any two books.
+    ghost meaning = { λ b. joined b.fits (P.meaning b.first) (Q.meaning b.second) };
 
-    ghost lawful = { λ b. joint_lawful (P.lawful b.first) (Q.lawful b.second) };
+    ghost lawful = { λ b. joined_lawful (P.meaning b.first) (Q.meaning b.second) (P.lawful b.first) (Q.lawful b.second) b.fits };
 
-    ghost items_most = { λ b. (joint_lawful (P.lawful b.first) (Q.lawful b.second)).items_most };
+    ghost items_most = { λ b. (joined_lawful (P.meaning b.first) (Q.meaning b.second) (P.lawful b.first) (Q.lawful b.second) b.fits).items_most };
 
-    ghost options_most = { λ b. (joint_lawful (P.lawful b.first) (Q.lawful b.second)).options_most };
+    ghost options_most = { λ b. (joined_lawful (P.meaning b.first) (Q.meaning b.second) (P.lawful b.first) (Q.lawful b.second) b.fits).options_most };
 
     fn edition(&self) -> u32 {
         if self.fits { self.first.edition() } else { 0 }
@@ -101,13 +105,18 @@ impl<P: RuleBook, Q: RuleBook> RuleBook for JointBook<P, Q> {
     }
 
     fn linked(&self, i: usize, j: usize) -> bool {
-        self.fits && (self.first.linked(i, j) || self.second.linked(i, j))
+        if !self.fits {
+            return false;
+        }
+        let n = self.first.items();
+        self.first.linked(i, j) || (i < n && j < n && self.second.linked(i, j))
     }
 
     fn together(&self, i: usize, a: usize, j: usize, b: usize) -> bool {
         if !self.fits {
             return i == 0 && a == 0 && j == 0 && b == 0;
         }
-        self.first.together(i, a, j, b) && self.second.together(i, a, j, b)
+        self.first.together(i, a, j, b)
+            && (!self.second.linked(i, j) || self.second.together(i, a, j, b))
     }
 }

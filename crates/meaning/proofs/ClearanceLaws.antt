@@ -1,12 +1,14 @@
--- Right parts make a lawful clearance book.
-use Rattle.std.proofs.Common.{◌≡◌, ℕ, ◌<◌, ◌≤◌, true, false, ◌&&◌, List, [], ◌∷◌, replicate, refl, arith}
+-- Right parts make a lawful clearance book, and the blank book's parts mean the blank book.
+use Rattle.std.proofs.Common.{◌≡◌, ℕ, zero, suc, ◌<◌, ◌≤◌, true, false, ◌&&◌, List, [], ◌∷◌, get_or, replicate, refl, arith}
 use Rattle.std.proofs.lemmas.Bool.{and_parts, lt-ltb, le-ltb}
 use Rattle.std.proofs.lemmas.Bool.Decides.{nat_tests}
 use Rattle.bits.specs.Below.{every}
 use Rattle.meaning.specs.Clearance.{apart, clearance_contents, clearance_meaning, contents_right, gap_of, gaps_right, green, greens_right}
 use Rattle.meaning.specs.Limits.{counts_right, options_in}
+use Rattle.meaning.specs.Blank.{blank}
 use Rattle.meaning.specs.Meaning.{Lawful}
 use Rattle.meaning.specs.declared.parts.ClearanceParts.{ClearanceParts}
+use Rattle.meaning.proofs.Equal.{meaning_equal}
 use Rattle.meaning.proofs.OptionCounts.{item_there, options_least, options_most}
 
 -- no gap between an item and itself, and one gap for both ways
@@ -54,3 +56,24 @@ module _ (p : ClearanceParts) (few : (1 ≤ p.items) × (p.items ≤ 32)) (ok : 
 pub blank_right : contents_right 1 (1 ∷ []) (replicate 32 0) [] ≡ true
 unfolding every
 blank_right = refl
+
+module _ (p : ClearanceParts) (e : p.edition ≡ 0) (one : p.items ≡ 1) (count : get_or p.counts.now 0 0 ≡ 1) where
+  blank_options : (i : ℕ) → (clearance_meaning p).options i ≡ blank.options i
+  blank_options zero = rw one count
+  blank_options (suc i) = grind (arith, nat_tests)
+
+  no_gap : (i j : ℕ) → i < 1 → j < 1 → gap_of p.gaps.now i j ≡ 0
+  no_gap i j h k = grind (arith, nat_tests)
+
+  blank_linked : (i j : ℕ) → (clearance_meaning p).linked i j ≡ false
+  blank_linked i j = let t = no_gap i j in grind (arith, nat_tests)
+
+  blank_together : (i a j b : ℕ) → (clearance_meaning p).together i a j b ≡ blank.together i a j b
+  blank_together i a j b =
+      let t = no_gap i j in
+      let x = blank_options i in
+      let y = blank_options j in
+      grind (arith, nat_tests)
+
+  pub blank_clearance : clearance_meaning p ≡ blank
+  blank_clearance = meaning_equal (clearance_meaning p) blank e one blank_options blank_linked blank_together

@@ -1,12 +1,14 @@
--- Right parts make a lawful grid book.
-use Rattle.std.proofs.Common.{◌≡◌, ℕ, ◌<◌, ◌≤◌, true, false, ◌&&◌, ltb, List, subst, inl, inr, arith}
+-- Right parts make a lawful grid book, and the blank book's parts mean the blank book.
+use Rattle.std.proofs.Common.{◌≡◌, ℕ, zero, suc, ◌<◌, ◌≤◌, true, false, ◌&&◌, ltb, List, get_or, subst, inl, inr, arith}
 use Rattle.std.proofs.lemmas.Bool.{cases_lt, cases_order, lt-ltb, le-ltb}
 use Rattle.std.proofs.lemmas.Bool.Decides.{nat_tests}
+use Rattle.meaning.specs.Blank.{blank}
 use Rattle.meaning.specs.Meaning.{Lawful}
 use Rattle.meaning.specs.Grid.{grid_contents, grid_meaning, link_bit}
 use Rattle.meaning.specs.Limits.{options_in}
 use Rattle.meaning.specs.declared.parts.GridParts.{GridParts}
 use Rattle.meaning.proofs.GridContents.{counts_hold, no_own_link, links_mutual}
+use Rattle.meaning.proofs.Equal.{meaning_equal}
 use Rattle.meaning.proofs.OptionCounts.{options_least, options_most, item_there}
 
 module _ (p : GridParts) (few : (1 ≤ p.items) × (p.items ≤ 32)) (ok : grid_contents p ≡ true) where
@@ -74,3 +76,26 @@ module _ (p : GridParts) (few : (1 ≤ p.items) × (p.items ≤ 32)) (ok : grid_
     together_mutual = together_both;
     together_unlinked = together_free;
   }
+
+module _ (p : GridParts) (e : p.edition ≡ 0) (one : p.items ≡ 1) (count : get_or p.counts.now 0 0 ≡ 1) (free : link_bit p.links.now 0 0 ≡ false) where
+  blank_options : (i : ℕ) → (grid_meaning p).options i ≡ blank.options i
+  blank_options zero = rw one count
+  blank_options (suc i) = grind (arith, nat_tests)
+
+  no_link : (i j : ℕ) → i < 1 → j < 1 → link_bit p.links.now i j ≡ false
+  no_link zero zero h k = free
+  no_link zero (suc j) h k = absurd (omega arith)
+  no_link (suc i) j h k = absurd (omega arith)
+
+  blank_linked : (i j : ℕ) → (grid_meaning p).linked i j ≡ false
+  blank_linked i j = let t = no_link i j in grind (arith, nat_tests)
+
+  blank_together : (i a j b : ℕ) → (grid_meaning p).together i a j b ≡ blank.together i a j b
+  blank_together i a j b =
+      let t = no_link i j in
+      let x = blank_options i in
+      let y = blank_options j in
+      grind (arith, nat_tests)
+
+  pub blank_grid : grid_meaning p ≡ blank
+  blank_grid = meaning_equal (grid_meaning p) blank e one blank_options blank_linked blank_together

@@ -1,4 +1,5 @@
 pub mod Starts
+pub mod Equal
 pub mod BlankLaws
 pub mod OptionCounts
 pub mod GridContents

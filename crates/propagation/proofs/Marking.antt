@@ -82,7 +82,7 @@ module _ (n room : ℕ) (f : ℕ → Bool) (w : Bag ℕ) (x : ℕ) where
         fits = l.fits;
       }
 
-  marks_free : Marks n f w room → x < n → f x ≡ false → number w < room
+  pub marks_free : Marks n f w room → x < n → f x ≡ false → number w < room
   marks_free l lt no' =
       let f' : ℕ → Bool = λ k. f k || eqb x k in
       let more = marks_put n room f f' w x l lt no' (λ k. refl) in

@@ -62,7 +62,7 @@ module _ (m : Meaning) (kept seen : Set) (room : ℕ) (w : Bag Choice) where
         fits = p.fits;
       }
 
-  pending_free : Sub kept seen → There m seen → (i a : ℕ) → Pending m kept seen w room → T (kept i a) → number w < room
+  pub pending_free : Sub kept seen → There m seen → (i a : ℕ) → Pending m kept seen w room → T (kept i a) → number w < room
   pending_free sub there i a p t =
       let th = there i a (sub i a t) in
       let e = size_drop m kept i a (th.0, th.1, t) in

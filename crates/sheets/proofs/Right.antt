@@ -5,7 +5,7 @@ use Rattle.std.proofs.lemmas.Bool.Decides.{nat_tests}
 use Rattle.bits.specs.Below.{every, one_if}
 use Rattle.bits.specs.Bits.{bit}
 use Rattle.bits.proofs.Belows.{every_at}
-use Rattle.bits.proofs.Words.{bit_up}
+use Rattle.bits.proofs.Words.{bit_high, bit_up}
 use Rattle.meaning.specs.Grid.{contents_right, link_bit, links_right, place, row_right, rows_right, same, sizes_right}
 use Rattle.meaning.specs.Limits.{counts_right, within}
 use Rattle.sheets.specs.declared.draft.Opening.{Opening}
@@ -89,6 +89,9 @@ module _ (s : Sheet) (ok : is_right s ≡ true) where
 
   pub mutual_links : (i j : ℕ) → i < n → j < n → link_bit s.links i j ≡ link_bit s.links j i
   mutual_links i j l k = same_is (link_bit s.links i j) (link_bit s.links j i) (every_at _ _ (link_at i l).1 j k)
+
+  pub link_past : (i j : ℕ) → i < n → n ≤ j → link_bit s.links i j ≡ false
+  link_past i j l k = bit_high (get_or s.links i 0) n j (word_in i l) k
 
   row_at : (j i a : ℕ) → j < n → i < j → a < 32 → row_right s.counts s.links s.rows j i a ≡ true
   row_at j i a l k m =

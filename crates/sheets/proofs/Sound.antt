@@ -23,6 +23,12 @@ pub record Fixed (d c : Draft) (i : ℕ) : Type 0 where
   pub opening : c.opening ≡ d.opening
   pub counts : (x : ℕ) → x < i → get_or c.counts x 0 ≡ get_or d.counts x 0
 
+pub fixed_none : (d : Draft) (i : ℕ) → Fixed d d i
+fixed_none d i = record { opening = refl; counts = λ x l. refl }
+
+pub fixed_more : (a b c : Draft) (i : ℕ) → Fixed a b i → Fixed b c i → Fixed a c i
+fixed_more a b c i f g = record { opening = g.opening ∙ f.opening; counts = λ x l. g.counts x l ∙ f.counts x l }
+
 record Went (d : Draft) (ps : List (List ℕ)) (c : Draft) : Type 0 where
   drafted : Drafted c
   seen : ps ≡ up_to (sheet_of c) c.due
@@ -30,7 +36,7 @@ record Went (d : Draft) (ps : List (List ℕ)) (c : Draft) : Type 0 where
 
 sound_pairs : (d : Draft) (k : ℕ) (ps ls : List (List ℕ)) (c : Draft) → Drafted d → ps ≡ up_to (sheet_of d) d.due → 4 + d.opening.items < k → follow d k ls ≡ Ok c → Went d (ps ++ ls) c
 sound_pairs d k ps [] c h e l f =
-    subst (λ (x : Draft). Went d (ps ++ []) x) (ok_same d c f) (record { drafted = h; seen = append-nil ps ∙ e; fixed = record { opening = refl; counts = λ x l. refl } })
+    subst (λ (x : Draft). Went d (ps ++ []) x) (ok_same d c f) (record { drafted = h; seen = append-nil ps ∙ e; fixed = fixed_none d 32 })
 sound_pairs d k ps (x ∷ ls) c h e l f =
     let p = pair_step d k x ls c l f in
     let e' = seen_next d h p.0 p.3 p.2 ps e in

@@ -47,7 +47,7 @@ pub then_ok : (r : Result Draft Refusal) (f : Draft → Result Draft Refusal) (d
 then_ok (Err e) f d h = absurd cc
 then_ok (Ok c) f d h = (c, refl, h)
 
-names_ok : (d : Draft) (k : ℕ) (due l : List ℕ) (c : Draft) → reading.names d k due l ≡ Ok c → (l ≡ due) × (d ≡ c)
+pub names_ok : (d : Draft) (k : ℕ) (due l : List ℕ) (c : Draft) → reading.names d k due l ≡ Ok c → (l ≡ due) × (d ≡ c)
 names_ok d k due l c e =
     let p = cond_in _ _ _ _ e in
     ((bytes_eq-Decides l due).0 p.0, ok_same d c p.1)
@@ -58,14 +58,14 @@ names_back d k due = cond-true _ _ _ ((bytes_eq-Decides due due).1 refl)
 abbrev pub opened : Draft → Opening → Draft
 opened d o = record d { opening = o }
 
-opening_ok : (d : Draft) (k : ℕ) (f : Option Opening) (c : Draft) → reading.opening d k f ≡ Ok c
+pub opening_ok : (d : Draft) (k : ℕ) (f : Option Opening) (c : Draft) → reading.opening d k f ≡ Ok c
     → (o : Opening) × (f ≡ Some o) × (opening_right o ≡ true) × (opened d o ≡ c)
 opening_ok d k None c e = absurd cc
 opening_ok d k (Some o) c e =
     let p = cond_in _ _ _ _ e in
     (o, refl, p.0, ok_same (opened d o) c p.1)
 
-item_ok : (d : Draft) (k : ℕ) (f : Option ItemLine) (c : Draft) → reading.item d k f ≡ Ok c
+pub item_ok : (d : Draft) (k : ℕ) (f : Option ItemLine) (c : Draft) → reading.item d k f ≡ Ok c
     → (l : ItemLine) × (f ≡ Some l) × (within l.options 32 ≡ true) × (4 + l.item ≡ k) × (with_count d l.item l.options ≡ c)
 item_ok d k None c e = absurd cc
 item_ok d k (Some l) c e =
@@ -94,7 +94,7 @@ in_turn e q t =
 no_other_length : (j n m k : ℕ) → (ltb j n && not (eqb m k)) ≡ false → j < n → m ≡ k
 no_other_length j n m k e l = grind (arith, nat_tests)
 
-pair_ok : (d : Draft) (k : ℕ) (f : Option PairLine) (c : Draft) → reading.pair d k f ≡ Ok c → (l : PairLine) × (f ≡ Some l) × Fits d l × (with_row d l ≡ c)
+pub pair_ok : (d : Draft) (k : ℕ) (f : Option PairLine) (c : Draft) → reading.pair d k f ≡ Ok c → (l : PairLine) × (f ≡ Some l) × Fits d l × (with_row d l ≡ c)
 pair_ok d k None c e = absurd cc
 pair_ok d k (Some l) c e =
     let p = cond_out _ _ _ _ e in
@@ -177,7 +177,7 @@ append_step : (k m : ℕ) (xs ys : List (List ℕ)) → k + 1 + length xs ≡ m 
 append_step k m xs ys e f (Err x) = refl
 append_step k m xs ys e f (Ok c) = f c ∙ ap (λ (n : ℕ). follow c (k + 1) xs >>= λ b. follow b n ys) e
 
-follow_append : (d : Draft) (k : ℕ) (xs ys : List (List ℕ)) → follow d k (xs ++ ys) ≡ (follow d k xs >>= λ c. follow c (k + length xs) ys)
+pub follow_append : (d : Draft) (k : ℕ) (xs ys : List (List ℕ)) → follow d k (xs ++ ys) ≡ (follow d k xs >>= λ c. follow c (k + length xs) ys)
 follow_append d k [] ys = ap (λ (n : ℕ). follow d n ys) (omega arith)
 follow_append d k (x ∷ xs) ys = append_step k (k + length (x ∷ xs)) xs ys (omega arith) (λ c. follow_append c (k + 1) xs ys) (step d k x)
 
