@@ -35,10 +35,17 @@ impl<'a, B: RuleBook> Candidate<'a, B> {
     fn has_more_partners(&self, i: usize, a: usize, j: usize) -> bool
         ensures { result ≡ nat_lt self.now.count (partners (B.meaning self.now.book.now) (words self.now.set.now) i a j) }
     {
+        // Each partner takes one from the count. `filter` and `nth` would read better, at twice the instructions: `nth` calls
+        // `next` at two places, and LLVM inlines neither.
         (0..self.book.options(j))
-            .filter(|b| self.is_partner(i, a, j, *b))
-            .nth(usize::from(self.count))
-            .is_some()
+            .try_fold(self.count, |left, b| {
+                if self.is_partner(i, a, j, b) {
+                    left.checked_sub(1)
+                } else {
+                    Some(left)
+                }
+            })
+            .is_none()
     }
 
     fn is_witness(&self, i: usize, a: usize, j: usize, b: usize, k: usize, w: usize) -> bool
@@ -84,7 +91,10 @@ impl<'a, B: RuleBook> Candidate<'a, B> {
     pub(crate) fn first_failure(&self, i: usize, a: usize) -> Option<usize>
         ensures { FirstFailure self.now.count (B.meaning self.now.book.now) (words self.now.set.now) i a result }
     {
-        (0..self.book.items()).find(|j| self.book.linked(i, *j) && !self.meets_on(i, a, *j))
+        // a copy, whose fields are read once and not again at each linked item
+        let Candidate { book, set, count } = *self;
+        let own = Candidate { book, set, count };
+        (0..book.items()).find(|j| book.linked(i, *j) && !own.meets_on(i, a, *j))
     }
 
     fn meets(&self, i: usize, a: usize) -> bool
