@@ -60,7 +60,7 @@ module _ (c : ℕ) (m : Meaning) (ws : List ℕ) where
           ]
 
 -- by the level's partner count n
-judged : (l : Level) (n : ℕ) → n ≡ count_of l → (m : Meaning) → Lawful m → (ws : List ℕ) → T (every m.items (is_item n m ws)) ↔ ConsistentSet l m ws
+pub judged : (l : Level) (n : ℕ) → n ≡ count_of l → (m : Meaning) → Lawful m → (ws : List ℕ) → T (every m.items (is_item n m ws)) ↔ ConsistentSet l m ws
 judged l n e m lawful ws = (
   (λ t. (proper n m ws t, ((λ i a h j k. (is_count l n e m lawful (words ws) i a j k).1 (closed n m ws t i a h j k)), none_empty n m ws t))),
   λ h. every_i m.items (is_item n m ws) (item_holds n m ws h.0 (λ i a x j k. (is_count l n e m lawful (words ws) i a j k).0 (h.1.0 i a x j k)) h.1.1),

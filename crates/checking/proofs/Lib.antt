@@ -1,3 +1,4 @@
 pub mod Items
 pub mod Failures
 pub mod Searches
+pub mod Folds

@@ -1,20 +1,22 @@
--- `find`, and `try_fold`, over the numbers below a bound, in the words of `Below`.
-use Rattle.std.proofs.Common.{◌≡◌, ℕ, suc, ◌+◌, ◌<◌, ◌≤◌, Bool, true, false, not, List, ◌∷◌, [], nat_lt, is_some, Option, Some, None, MatchOption, Bor, refl, subst, sym, ap, ◌∙◌, arith}
+-- `find`, and `nth` after `filter`, over the numbers below a bound, in the words of `Below`.
+use Rattle.std.proofs.Common.{◌≡◌, ℕ, suc, zero, ◌+◌, ◌<◌, ◌≤◌, Bool, true, false, not, cond, List, ◌∷◌, length, filter, nat_lt, is_some, Option, Some, None, MatchOption, slice_get, Bor, sym, ap, ◌∙◌, arith}
 use Rattle.std.proofs.iter.Yields.{nat_range_steps}
 use Rattle.std.proofs.lemmas.Bool.Decides.{nat_tests}
-use Rattle.std.proofs.lemmas.Iterator.{first_from_Range}
-use Rattle.std.specs.ControlFlow.{continue_value}
-use Rattle.std.specs.Fn.{Called, CalledAt}
-use Rattle.std.specs.Iterator.{TryFoldTurn, Yields, YieldsThen}
-use Rattle.std.specs.List.{FoldsTo}
-use Rattle.std.specs.declared.ops.ControlFlow.{ControlFlow}
-use Rattle.std.specs.declared.ops.ControlFlow.TheVariants.{Break, Continue}
+use Rattle.std.proofs.lemmas.Iterator.{YieldsList-from_range, first_from_Range}
+use Rattle.std.proofs.lemmas.Iterator.Consumers.{YieldsList-from_filter, nth_from_yields_List}
+use Rattle.std.proofs.lemmas.Option.{slice_get_within, slice_get-get_or}
+use Rattle.std.specs.Fn.{CalledAt}
+use Rattle.std.specs.Iterator.{YieldsThen}
+use Rattle.std.specs.Iterator.Adapters.{filter_source, filter_callee, filter_steps}
+use Rattle.std.specs.List.{range_with_len, FoldsTo}
+use Rattle.std.specs.Option.{option_map}
+use Rattle.std.specs.declared.iter.Filter.{Filter}
 use Rattle.std.specs.declared.ops.Range.{Range}
 use denote.Param.Members.{Mut}
 use Rattle.bits.specs.Below.{every, count, one_if}
 use Rattle.bits.proofs.Belows.{every_i}
 use Rattle.bits.proofs.Tests.{to_true, of_true}
-use Rattle.bits.proofs.Counts.{count_below_none, count_up}
+use Rattle.bits.proofs.Counts.{count_below_none, count_low, count_cong}
 
 -- `find` of a number that fails the test p
 pub first_below : {F : Type 0} {g : Mut F (Bor ℕ × Unit {0}) Bool} (n : ℕ) (p : ℕ → Bool) (u : Range ℕ) (f : F) (r : Option ℕ)
@@ -33,51 +35,29 @@ first_below n p u f r ran call =
     by_case None h = all n h
     by_case (Some k) h = (h.1, h.2, all k h.3)
 
-more : (p : ℕ → Bool) (k : ℕ) → count (suc k) p ≡ one_if (p k) + count k p
-unfolding count
-more p k = refl
+length_if : (b : Bool) (x : ℕ) (xs : List ℕ) → length (cond b (x ∷ xs) xs) ≡ one_if b + length xs
+length_if true x xs = omega arith
+length_if false x xs = omega arith
 
-module _ {F : Type 0} (E : Type 0) {g : Mut F (ℕ × (ℕ × Unit {0})) (Option ℕ)} (p : ℕ → Bool) (f : F)
-    (turn : (l x : ℕ) (v : Option ℕ) (q : F) → Called g f (l, (x, tt)) v q → (q ≡ f) × MatchOption v ((p x ≡ true) × (l ≡ 0)) (λ k. k + one_if (p x) ≡ l)) where
-  abbrev goes_on : Option ℕ → ControlFlow E ℕ → Type 0
-  goes_on v r = v ≡ continue_value r
+passing_from : (p : ℕ → Bool) (a n : ℕ) → length (filter p (range_with_len a n)) ≡ count n (λ k. p (a + k))
+passing_from p a zero = sym (count_below_none (λ k. p (a + k)))
+passing_from p a (suc n) =
+    let first = length_if (p a) a (filter p (range_with_len (a + 1) n)) in
+    let rest = passing_from p (a + 1) n in
+    let low = count_low n (λ k. p (a + k)) in
+    let same = count_cong n (λ k. p (a + 1 + k)) (λ k. p (a + suc k)) (λ k lt. ap p (omega arith)) in
+    let here : one_if (p (a + 0)) ≡ one_if (p a) = ap (λ k. one_if (p k)) (omega arith) in
+    omega arith
 
-  -- as many are taken from l as pass on the way from s to t
-  left_over : (xs : List ℕ) (s t : Range ℕ) (l : ℕ) (z : F × ℕ) → Yields nat_range_steps s xs t → FoldsTo {P = F × ℕ} (TryFoldTurn g goes_on) (f, l) xs z
-      → (z.0 ≡ f) × (t.end ≡ s.end) × (count t.start p + z.1 ≡ count s.start p + l)
-  left_over [] s t l z y d = rw (← y, ← d) (refl, refl, refl)
-  left_over (x ∷ xs) s t l z y d =
-      let m = y.0 in
-      let w = d.0 in
-      let here = turn l x d.1.0 w.0 d.1.1 in
-      let one : w.1 + one_if (p x) ≡ l = subst (λ (v : Option ℕ). MatchOption v ((p x ≡ true) × (l ≡ 0)) (λ k. k + one_if (p x) ≡ l)) d.1.2 here.1 in
-      let rest = left_over xs m t w.1 z y.2 (subst (λ (q : F). FoldsTo {P = F × ℕ} (TryFoldTurn g goes_on) (q, w.1) xs z) here.0 d.2) in
-      let at : m.start ≡ suc s.start = omega arith in
-      let upto = ap (λ k. count k p) at in
-      let same : one_if (p x) ≡ one_if (p s.start) = ap (λ k. one_if (p k)) y.1.1.1 in
-      let next = more p s.start in
-      (rest.0, omega arith, omega (arith, rest.2, upto, same, next, one))
+there_if : (xs : List ℕ) (c : ℕ) (r : Option ℕ) → option_map (λ x. x) r ≡ slice_get xs c → is_some r ≡ nat_lt c (length xs)
+there_if xs c None e = grind (arith, nat_tests, slice_get-get_or xs c 0)
+there_if xs c (Some x) e = let lt = slice_get_within xs c x (sym e) in grind (arith, nat_tests)
 
-  -- the fold breaks off exactly where more than c pass
-  pub more_below : (n c : ℕ) (u : Range ℕ) (r : Option ℕ) (b : Bool)
-      → (xs : List ℕ) × (o : Option ℕ) × (j : F) × (a : ℕ) × YieldsThen nat_range_steps (record { start = 0; end = n }) xs o u × FoldsTo {P = F × ℕ} (TryFoldTurn g goes_on) (f, c) xs (j, a)
-      × MatchOption o (goes_on r (Continue a)) (λ x. (v : Option ℕ) × (h : F) × (e : E) × Called g j (a, (x, tt)) v h × goes_on v (Break e) × (r ≡ None))
-      → is_some r ≡ not b → b ≡ nat_lt c (count n p)
-  more_below n c u r b d says = ends d.1 d.4.2 d.6
-    where
-      left : (d.2 ≡ f) × (d.4.0.end ≡ n) × (count d.4.0.start p + d.3 ≡ count 0 p + c)
-      left = left_over d.0 (record { start = 0; end = n }) d.4.0 c (d.2, d.3) d.4.1 d.5
-
-      ends : (o : Option ℕ) → nat_range_steps d.4.0 o u → MatchOption o (goes_on r (Continue d.3)) (λ x. (v : Option ℕ) × (h : F) × (e : E) × Called g d.2 (d.3, (x, tt)) v h × goes_on v (Break e) × (r ≡ None)) → b ≡ nat_lt c (count n p)
-      ends None k t =
-          let up = count_up n d.4.0.start p (omega (arith, left.1, k)) in
-          let none = count_below_none p in
-          grind (arith, nat_tests, left.2, up, none, t, says)
-      ends (Some x) k t =
-          let here = turn d.3 x t.0 t.1 (subst (λ (q : F). Called g q (d.3, (x, tt)) t.0 t.1) left.0 t.3) in
-          let passes : (p x ≡ true) × (d.3 ≡ 0) = subst (λ (v : Option ℕ). MatchOption v ((p x ≡ true) × (d.3 ≡ 0)) (λ k. k + one_if (p x) ≡ d.3)) t.4 here.1 in
-          let up = count_up (suc d.4.0.start) n p (omega (arith, left.1, k)) in
-          let next = more p d.4.0.start in
-          let one : one_if (p d.4.0.start) ≡ 1 = ap (λ k. one_if (p k)) (sym k.1.1) ∙ ap one_if passes.0 in
-          let none = count_below_none p in
-          grind (arith, nat_tests, left.2, up, none, next, one, passes.1, t.5, says)
+-- `nth` of those that pass the test p: there is one at place c exactly where more than c pass
+pub more_below : {F : Type 0} {g : Mut F (Bor ℕ × Unit {0}) Bool} {s : Filter (Range ℕ) F} {f : F} (p : ℕ → Bool) (n c : ℕ) (u : Filter (Range ℕ) F) (r : Option ℕ)
+    → filter_source s ≡ record { start = 0; end = n } → filter_callee s ≡ f
+    → (xs : List ℕ) × YieldsThen (filter_steps nat_range_steps g) s xs r u × MatchOption r (length xs ≤ c) (λ _. length xs ≡ c)
+    → ((x : ℕ) (b : Bool) (q : F) → CalledAt g f x b q → (q ≡ f) × (b ≡ p x)) → is_some r ≡ nat_lt c (count n p)
+more_below {F} {g} p n c u r source callee ran call =
+    let there = there_if (filter p (range_with_len 0 n)) c r (nth_from_yields_List r u c ran (YieldsList-from_filter g p (YieldsList-from_range 0 n n source (omega arith)) callee call)) in
+    there ∙ ap (nat_lt c) (passing_from p 0 n ∙ count_cong n (λ k. p (0 + k)) p (λ k lt. ap p (omega arith)))
