@@ -1,5 +1,5 @@
 -- What the words of options that an edit puts or takes make of a set.
-use Rattle.std.proofs.Common.{◌≡◌, ℕ, ◌<◌, Bool, true, false, cond, not, ◌&&◌, ◌||◌, eqb, ltb, leb, Ok, Err, Result, T, sym, refl, ap, ◌∙◌, arith}
+use Rattle.std.proofs.Common.{◌≡◌, ℕ, ◌<◌, Bool, true, false, cond, not, ◌&&◌, ◌||◌, eqb, ltb, leb, Ok, Err, Result, T, sym, ap, ◌∙◌, arith}
 use mathlib.Core.Path.{fun_ext}
 use native.Mathlib.Decide.{ℕ_discrete}
 use Rattle.bits.specs.Bits.{bit}
@@ -11,7 +11,6 @@ use Rattle.meaning.specs.declared.refusal.Refusal.TheVariants.{NoSuchItem, NoSuc
 use Rattle.levels.specs.Sets.{Set}
 use Rattle.runs.specs.State.{State, is_option, unstruck}
 use Rattle.runs.specs.Edits.{with_one, without_one, with_others, without_others, is_this, is_other, edit_due, edited, strike_due, restore_due, struck_by, chosen_by, restored_by}
-use Rattle.sessions.specs.Edits.{struck_word}
 use Rattle.sessions.specs.Words.{with_word, without_word}
 use Rattle.sessions.proofs.Masks.{one_bit}
 
@@ -56,23 +55,24 @@ ends false false false bad last e = tt
 pub there : (m : Meaning) (v : State) (i a : ℕ) (bad : Bool) (last : Refusal) → edit_due m v i a bad last ≡ Ok tt → a < m.options i
 there m v i a bad last e = nleb→lt (m.options i) a (ends v.barred (leb m.items i) (leb (m.options i) a) bad last e)
 
--- two sessions are one after an edit where they are one after an edit that is not refused
-pub edited_same : (due : Result (Unit {0}) Refusal) (v x y : State) → (due ≡ Ok tt → x ≡ y) → edited due v x ≡ edited due v y
-edited_same (Ok tt) v x y h = h refl
-edited_same (Err e) v x y h = refl
+-- an edit that is not refused leaves what it makes
+leaves : (due : Result (Unit {0}) Refusal) (v x : State) → due ≡ Ok tt → x ≡ edited due v x
+leaves due v x ok = ap (λ (r : Result (Unit {0}) Refusal). edited r v x) (sym ok)
 
 -- the word of one option that is there strikes that option
 pub strikes_one : (m : Meaning) → Lawful m → (v : State) (i a w : ℕ) → ((b : ℕ) → bit w b ≡ (eqb a b && ltb b 32)) → strike_due m v i a ≡ Ok tt
-    → struck_word v i w ≡ struck_by v i a
-strikes_one m law v i a w is ok =
+    → (s k : Set) → s ≡ with_word v.struck i w → k ≡ without_word v.kept i w → ◌≡◌ {A = State} (record { barred = v.barred; struck = s; kept = k }) (edited (strike_due m v i a) v (struck_by v i a))
+strikes_one m law v i a w is ok s k e f =
     let few : a < 32 = let l = there m v i a (v.struck i a) AlreadyStruck ok in let most = law.options_most i in omega arith in
     let one = λ (b : ℕ). is b ∙ one_bit a b few in
-    same_state v.barred _ _ _ _ (with_one_word i a w one v.struck) (without_one_word i a w one v.kept)
+    same_state v.barred _ _ _ _ (e ∙ with_one_word i a w one v.struck) (f ∙ without_one_word i a w one v.kept) ∙ leaves (strike_due m v i a) v (struck_by v i a) ok
 
 -- the word of the other options strikes those
-pub strikes_others : (m : Meaning) (v : State) (i a w : ℕ) → ((b : ℕ) → bit w b ≡ (not (eqb a b) && is_option m i b))
-    → struck_word v i w ≡ chosen_by m v i a
-strikes_others m v i a w is = same_state v.barred _ _ _ _ (with_others_word m i a w is v.struck) (without_others_word m i a w is v.kept)
+pub strikes_others : (m : Meaning) (v : State) (i a w : ℕ) → ((b : ℕ) → bit w b ≡ (not (eqb a b) && is_option m i b)) → strike_due m v i a ≡ Ok tt
+    → (s k : Set) → s ≡ with_word v.struck i w → k ≡ without_word v.kept i w → ◌≡◌ {A = State} (record { barred = v.barred; struck = s; kept = k }) (edited (strike_due m v i a) v (chosen_by m v i a))
+strikes_others m v i a w is ok s k e f =
+    same_state v.barred _ _ _ _ (e ∙ with_others_word m i a w is v.struck) (f ∙ without_others_word m i a w is v.kept)
+    ∙ leaves (strike_due m v i a) v (chosen_by m v i a) ok
 
 -- the word of one option that is there restores that option
 pub restores_one : (m : Meaning) → Lawful m → (v : State) (i a w : ℕ) → ((b : ℕ) → bit w b ≡ (eqb a b && ltb b 32)) → restore_due m v i a ≡ Ok tt
@@ -81,4 +81,4 @@ restores_one m law v i a w is ok s k e f =
     let few : a < 32 = let l = there m v i a (not (v.struck i a)) NotStruck ok in let most = law.options_most i in omega arith in
     let one = λ (b : ℕ). is b ∙ one_bit a b few in
     let struck : s ≡ without_one v.struck i a = e ∙ without_one_word i a w one v.struck in
-    same_state v.barred _ _ _ _ struck (f ∙ ap (unstruck m) struck) ∙ ap (λ (r : Result (Unit {0}) Refusal). edited r v (restored_by m v i a)) (sym ok)
+    same_state v.barred _ _ _ _ struck (f ∙ ap (unstruck m) struck) ∙ leaves (restore_due m v i a) v (restored_by m v i a) ok

@@ -1,26 +1,18 @@
 -- What each edit leaves of a session.
 -- option_due: the refusal due to every edit of option a of i in a session that is not barred, in its order: 1, 2
--- struck_word: the session with the options of item i that the word w has struck
--- after_striking, after_strike, after_choose, after_restore: the session after the edit of option a of i, refused or not
+-- after_strike, after_choose, after_restore: the session after the edit of option a of i, refused or not
 use Rattle.std.specs.Prelude.{ℕ, if◌then◌else◌, Ok, Err, Result, nat_le}
 use Rattle.meaning.specs.Meaning.{Meaning}
 use Rattle.meaning.specs.declared.refusal.Refusal.{Refusal}
 use Rattle.meaning.specs.declared.refusal.Refusal.TheVariants.{NoSuchItem, NoSuchOption}
 use Rattle.runs.specs.State.{State}
 use Rattle.runs.specs.Edits.{edited, strike_due, restore_due, struck_by, chosen_by, restored_by}
-use Rattle.sessions.specs.Words.{with_word, without_word}
 
 abbrev pub option_due : Meaning → ℕ → ℕ → Result (Unit {0}) Refusal
 option_due m i a =
     if nat_le m.items i then Err NoSuchItem
     else if nat_le (m.options i) a then Err NoSuchOption
     else Ok tt
-
-abbrev pub struck_word : State → ℕ → ℕ → State
-struck_word v i w = record { barred = v.barred; struck = with_word v.struck i w; kept = without_word v.kept i w }
-
-abbrev pub after_striking : Meaning → State → ℕ → ℕ → ℕ → State
-after_striking m v i a w = edited (strike_due m v i a) v (struck_word v i w)
 
 abbrev pub after_strike : Meaning → State → ℕ → ℕ → State
 after_strike m v i a = edited (strike_due m v i a) v (struck_by v i a)

@@ -21,7 +21,7 @@ impl<B: RuleBook> Options<'_, B> {
     pub fn of_item(&self, i: usize) -> u32
         ensures { (a : ℕ) → bit result a ≡ (is_option (B.meaning self.now.book.now) i a && words self.now.set.now i a) }
     {
-        if i >= 32 {
+        if i >= self.book.items() {
             return 0;
         }
         all_options(self.book, i) & self.set[i]

@@ -8,7 +8,7 @@ use Rattle.sessions.proofs.session.Session.restore.Goals as goal
 pub returns-clause-did : goal.returns-clause-did
 returns-clause-did g c =
     let m = g.B.RuleBook.meaning c.args.self.now.book in
-    let e : c.args.self.now.marks ≡ Some c.in_ok-marks.marks.now = search rules in
-    let v : State = shown (Some c.in_ok-marks.marks.now) in
+    let e : c.args.self.now.marks ≡ Some c.in-Some.marks = search rules in
+    let v : State = shown (Some c.in-Some.marks) in
     let due : restore_due m v c.args.i c.args.a ≡ Ok tt = search rules in
     rw e (restores_one m (g.B.RuleBook.lawful c.args.self.now.book) v c.args.i c.args.a c.one_option.result c.one_option.ensures due _ _ c.restore.ensures.struck c.restore.ensures.kept)
