@@ -58,7 +58,7 @@ pub fn perform<B: RuleBook + Drop, O: WaitingList<Choice>, I: WaitingList<u8>>(
     ensures { IfOk result (λ p. (p.session.book ≡ book) × Performs (B.meaning book) asked calls.now p.answers.items (room counts.old (O.waits options.old) (O.room options.old) (I.waits items.old) (I.room items.old)) (view p.session) (room counts.new (O.waits options.new) (O.room options.new) (I.waits items.new) (I.room items.new))) }
 {
     let mut session = Session::open(book, asked);
-    let mut answers = Vec::new(alloc);
+    let mut answers = Vec::with_capacity(alloc, calls.len())?;
     for call in calls {
         let answer = session.make(*call, counts, options, items);
         answers.push(answer)?;

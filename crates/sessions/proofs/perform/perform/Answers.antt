@@ -19,7 +19,7 @@ loop-call-init g c =
     let m : Meaning = g.B.RuleBook.meaning c.open-session.result.book in
     let v : State = view c.open-session.result in
     let start : v ≡ opened m c.args.asked = c.open-session.ensures.start ∙ ap (λ b. opened (g.B.RuleBook.meaning b) c.args.asked) (sym c.open-session.ensures.same) in
-    (refl, subst (λ (rs : List Answer). Steps m (opened m c.args.asked) [] rs q v q) (sym c.new-answers.ensures.items) (steps_none m (opened m c.args.asked) v q start))
+    (refl, subst (λ (rs : List Answer). Steps m (opened m c.args.asked) [] rs q v q) (sym c.in_ok-answers.ensures.items) (steps_none m (opened m c.args.asked) v q start))
 
 pub loop-call-preserved : goal.loop-call-preserved
 loop-call-preserved g c =
