@@ -56,7 +56,7 @@ pub there : (m : Meaning) (v : State) (i a : ℕ) (bad : Bool) (last : Refusal) 
 there m v i a bad last e = nleb→lt (m.options i) a (ends v.barred (leb m.items i) (leb (m.options i) a) bad last e)
 
 -- an edit that is not refused leaves what it makes
-leaves : (due : Result (Unit {0}) Refusal) (v x : State) → due ≡ Ok tt → x ≡ edited due v x
+pub leaves : (due : Result (Unit {0}) Refusal) (v x : State) → due ≡ Ok tt → x ≡ edited due v x
 leaves due v x ok = ap (λ (r : Result (Unit {0}) Refusal). edited r v x) (sym ok)
 
 -- the word of one option that is there strikes that option
