@@ -10,7 +10,7 @@ use std::alloc::AllocError;
 
 // Whether the two books agree is found out once, when the joint book is made. It stays a flag beside them, since both books
 // stay in either case: a book of any kind may not be let go. No ghost field says what it tells: then a clone, of which nothing says
-// that it is the same book, would ask its books anew, and a struct of generic books could not hold a joint book.
+// that it is the same book, would ask its books anew, and a struct of generic books could not hold a joint book of joint books.
 pub struct JointBook<P: RuleBook, Q: RuleBook> {
     first: P,
     second: Q,

@@ -17,7 +17,7 @@ pub struct PartsBook<P: Parts> {
     ghost empty: { ((P.meaning parts).edition ≡ 0 → ((P.meaning parts).items ≡ 1) × ((P.meaning parts).options 0 ≡ 1)) },
 }
 
-// Written by hand, as on a joint book: a generic struct with a ghost field derives neither.
+// Written by hand: a generic struct with a ghost field derives neither.
 impl<P: Parts> Copy for PartsBook<P> {}
 
 impl<P: Parts> Clone for PartsBook<P> {

@@ -22,7 +22,7 @@ fn fewest_kept<B: RuleBook>(book: &B, marks: &Marks) -> Option<usize>
     let mut best = None;
     for i in 0..book.items() {
         let number = kept.count(i);
-        // With the two tests the other way round the loop ran half as many instructions again.
+        // With the two tests the other way round the loop ran more than half as many instructions again.
         if best.is_none_or(|(_, fewest)| number < fewest) && number >= 2 {
             best = Some((i, number));
         }

@@ -66,12 +66,13 @@ opening_ok d k (Some o) c e =
     (o, refl, p.0, ok_same (opened d o) c p.1)
 
 pub item_ok : (d : Draft) (k : ℕ) (f : Option ItemLine) (c : Draft) → reading.item d k f ≡ Ok c
-    → (l : ItemLine) × (f ≡ Some l) × (within l.options 32 ≡ true) × (4 + l.item ≡ k) × (with_count d l.item l.options ≡ c)
+    → (l : ItemLine) × (f ≡ Some l) × (l.item < d.opening.items) × (within l.options 32 ≡ true) × (4 + l.item ≡ k) × (with_count d l.item l.options ≡ c)
 item_ok d k None c e = absurd cc
 item_ok d k (Some l) c e =
     let p = passed _ _ _ _ e in
     let q = passed _ _ _ _ p.1 in
-    (l, refl, (and_parts _ _ p.0).1, eqb-true _ _ q.0, ok_same (with_count d l.item l.options) c q.1)
+    let r = and_parts _ _ p.0 in
+    (l, refl, ltb-true _ _ r.0, r.1, eqb-true _ _ q.0, ok_same (with_count d l.item l.options) c q.1)
 
 abbrev pub Turn : Due → ℕ → Type 0
 Turn e q = ((e.option ≡ 0) × (e.pair ≤ q)) ⊎ (e.pair ≡ q)
@@ -159,9 +160,9 @@ pub item_step : (d : Draft) (i k : ℕ) (x : List ℕ) (ls : List (List ℕ)) (c
 item_step d i k x ls c l h e =
     let r = line_ok d k x ls c e in
     let p = item_ok d k (item_of x) r.0 (sym (step_item d k x (omega arith) (omega arith)) ∙ r.1) in
-    let is : p.0.item ≡ i = omega (arith, p.3) in
+    let is : p.0.item ≡ i = omega (arith, p.4) in
     let n = p.0.options in
-    (n, item_only x p.0 p.1 ∙ (λ v. decimal (is v) · decimal n), p.2, from_line (with_count d i n) r.0 (k + 1) ls c ((λ v. with_count d (sym is v) n) ∙ p.4) r.2)
+    (n, item_only x p.0 p.1 ∙ (λ v. decimal (is v) · decimal n), p.3, from_line (with_count d i n) r.0 (k + 1) ls c ((λ v. with_count d (sym is v) n) ∙ p.5) r.2)
 
 pub pair_step : (d : Draft) (k : ℕ) (x : List ℕ) (ls : List (List ℕ)) (c : Draft) → 4 + d.opening.items < k → follow d k (x ∷ ls) ≡ Ok c
     → (l : PairLine) × (x ≡ pair_text l) × (are_bits l.partners ≡ true) × Fits d l × (follow (with_row d l) (k + 1) ls ≡ Ok c)
